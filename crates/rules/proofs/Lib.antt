@@ -1,0 +1,5 @@
+pub mod Truth
+pub mod DigitLaws
+pub mod Lawful
+pub mod FieldLaws
+pub mod RecordLaws

@@ -1,0 +1,123 @@
+-- What tests that hold say, and their algebra.
+use mathlib.Core.Path.{_≡_, refl, sym, _∙_, ap, subst}
+use mathlib.Core.Logic.{_⊎_, inl, inr}
+use mathlib.Core.Bool.{Bool, true, false, cond, false≢true}
+use mathlib.Core.List.{List, [], _∷_, _++_}
+use Prim.Native.Nat.{ℕ, zero, suc, _≤_}
+use lib.ListN.{getD, replicate}
+use lib.Dec.{T, leb, eqb, leb→le, le→leb, eqb→eq, eqb-refl}
+use Rattle.rules.specs.Tests.{_&_, _≤?_, _=?_, within, all}
+
+pub both : {a b : Bool} → a & b ≡ true → (a ≡ true) × (b ≡ true)
+unfolding _&_
+both {a = true} h = (refl, h)
+both {a = false} h = absurd (false≢true h)
+
+pub and : {a b : Bool} → a ≡ true → b ≡ true → a & b ≡ true
+unfolding _&_
+and {a = true} h k = k
+and {a = false} h k = absurd (false≢true h)
+
+from-T : (b : Bool) → T b → b ≡ true
+from-T true t = refl
+from-T false t = absurd t
+
+pub to≤ : {m n : ℕ} → m ≤? n ≡ true → m ≤ n
+unfolding _≤?_
+to≤ {m} {n} h = leb→le m n (subst T (sym h) tt)
+
+pub of≤ : {m n : ℕ} → m ≤ n → m ≤? n ≡ true
+unfolding _≤?_
+of≤ {m} {n} h = from-T (leb m n) (le→leb m n h)
+
+pub to≡ : {m n : ℕ} → m =? n ≡ true → m ≡ n
+unfolding _=?_
+to≡ {m} {n} h = eqb→eq m n (subst T (sym h) tt)
+
+pub of≡ : {m n : ℕ} → m ≡ n → m =? n ≡ true
+unfolding _=?_
+of≡ {m} {n} e = subst (λ k. m =? k ≡ true) e (from-T (eqb m m) (eqb-refl m))
+
+pub to-within : {lo hi b : ℕ} → within lo hi b ≡ true → (lo ≤ b) × (b ≤ hi)
+unfolding within
+to-within h = (to≤ (both h .0), to≤ (both h .1))
+
+pub of-within : {lo hi b : ℕ} → lo ≤ b → b ≤ hi → within lo hi b ≡ true
+unfolding within
+of-within p q = and (of≤ p) (of≤ q)
+
+-- by cases on a test, keeping its outcome
+pub cases : {P : Type 0} (t : Bool) → (t ≡ true → P) → (t ≡ false → P) → P
+cases true f g = f refl
+cases false f g = g refl
+
+pub is-no : (t : Bool) → (t ≡ true → ⊥) → t ≡ false
+is-no true f = absurd (f refl)
+is-no false f = refl
+
+pub not-both : {t : Bool} → t ≡ true → t ≡ false → ⊥
+not-both h k = false≢true (sym k ∙ h)
+
+pub no≤ : {m n : ℕ} → m ≤? n ≡ false → m ≤ n → ⊥
+no≤ h e = not-both (of≤ e) h
+
+pub no≡ : {m n : ℕ} → m =? n ≡ false → m ≡ n → ⊥
+no≡ h e = not-both (of≡ e) h
+
+-- a choice of two tests
+pub choice : (a b : Bool) → cond a true b ≡ true → (P : Type 0) → (a ≡ true → P) → (b ≡ true → P) → P
+choice true b h P f g = f refl
+choice false b h P f g = g h
+
+pub either : {A B C : Type 0} → (A → C) → (B → C) → A ⊎ B → C
+either f g (inl a) = f a
+either f g (inr b) = g b
+
+module _ {A : Type 0} where
+  pub all-append : (p : A → Bool) (xs ys : List A) → all p xs ≡ true → all p ys ≡ true → all p (xs ++ ys) ≡ true
+  unfolding all
+  all-append p [] ys h k = k
+  all-append p (x ∷ xs) ys h k = and (both h .0) (all-append p xs ys (both h .1) k)
+
+  pub all-weaken : (p q : A → Bool) → ((x : A) → p x ≡ true → q x ≡ true) → (xs : List A) → all p xs ≡ true → all q xs ≡ true
+  unfolding all
+  all-weaken p q f [] h = refl
+  all-weaken p q f (x ∷ xs) h = and (f x (both h .0)) (all-weaken p q f xs (both h .1))
+
+  pub all-replicate : (p : A → Bool) (b : A) → p b ≡ true → (w : ℕ) → all p (replicate w b) ≡ true
+  unfolding all
+  all-replicate p b h zero = refl
+  all-replicate p b h (suc w) = and h (all-replicate p b h w)
+
+  -- a test of every member and of the default is a test of what is looked up
+  pub all-getD : (p : A → Bool) (l : List A) (d : A) (k : ℕ) → all p l ≡ true → p d ≡ true → p (getD l k d) ≡ true
+  unfolding all
+  all-getD p [] d k h e = e
+  all-getD p (x ∷ xs) d zero h e = both h .0
+  all-getD p (x ∷ xs) d (suc k) h e = all-getD p xs d k (both h .1) e
+
+pub true-and : (b : Bool) → true & b ≡ b
+unfolding _&_
+true-and b = refl
+
+pub and-true : (b : Bool) → b & true ≡ b
+unfolding _&_
+and-true true = refl
+and-true false = refl
+
+pub &-assoc : (a b c : Bool) → a & b & c ≡ a & (b & c)
+unfolding _&_
+&-assoc true b c = refl
+&-assoc false b c = refl
+
+pub &-comm : (a b : Bool) → a & b ≡ b & a
+unfolding _&_
+&-comm true true = refl
+&-comm true false = refl
+&-comm false true = refl
+&-comm false false = refl
+
+pub &-left-comm : (a b c : Bool) → a & (b & c) ≡ b & (a & c)
+&-left-comm a b c = sym (&-assoc a b c) ∙ ap (λ t. t & c) (&-comm a b) ∙ &-assoc b a c
+
+pub ruleset &-sort = (&-assoc, &-comm, &-left-comm)

@@ -1,0 +1,15 @@
+pub mod Tests
+pub mod Characters
+pub mod Digits
+pub mod Items
+pub mod Fields
+pub mod Kinds
+pub mod Layouts
+pub mod Records
+pub mod Files
+pub mod Order
+pub mod References
+pub mod Chapter4
+pub mod Faults
+pub mod Calls
+pub mod Sheet

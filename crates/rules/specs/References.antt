@@ -1,0 +1,63 @@
+-- 01, "A station number is defined by its *80*, and by one only; each *25* names a defined station, instrument and antenna",
+-- and "Memory": the words of the lent table.
+use mathlib.Core.Bool.{Bool, true, false, cond}
+use mathlib.Core.List.{List, [], _∷_, _++_}
+use Prim.Native.Nat.{ℕ, zero, suc, _+_, _-_}
+use lib.ListN.{length}
+use Rattle.rules.specs.Tests.{_&_, _≤?_, _=?_}
+use Rattle.rules.specs.Fields.{Check, valueAt, entriesOf, numOf}
+use Rattle.rules.specs.Records.{Meaning}
+use Rattle.rules.specs.Kinds.{kindOf, *25*, *70*, *72*, *80*}
+use Rattle.rules.specs.Layouts.{layout}
+
+unfoldable pub isA : ℕ → Meaning → Bool
+isA k m = kindOf (m .code) =? k
+
+-- the number that starts at a column of a record
+unfoldable pub numberAt : ℕ → Meaning → ℕ
+numberAt c m = numOf (valueAt c (entriesOf (layout (m .code)) (m .values)))
+
+-- the record of kind k with number n
+unfoldable pub defines : ℕ → ℕ → Meaning → Bool
+defines k n m = isA k m & numberAt 11 m =? n
+
+-- its record number, the first where there are several, 0 where there is none; the records are counted from r on
+unfoldable pub definerFrom : ℕ → ℕ → ℕ → List Meaning → ℕ
+definerFrom r k n [] = 0
+definerFrom r k n (m ∷ ms) = cond (defines k n m) r (definerFrom (r + 1) k n ms)
+
+unfoldable pub definer : ℕ → ℕ → List Meaning → ℕ
+definer k n ms = definerFrom 1 k n ms
+
+-- a test that is asked of one kind only
+unfoldable pub only : Bool → Bool → Bool
+only a b = cond a b true
+
+-- 11: an *80* is the first with its number; 12: a *25* names numbers that some *80*, *70*, *72* of the whole file defines
+unfoldable pub refChecks : List Meaning → ℕ → Meaning → List Check
+refChecks file r m =
+    record { test = only (isA *80* m) (definer *80* (numberAt 11 m) file =? r); number = 11; column = 11 }
+    ∷ record { test = only (isA *25* m) (1 ≤? definer *80* (numberAt 11 m) file); number = 12; column = 11 }
+    ∷ record { test = only (isA *25* m) (1 ≤? definer *70* (numberAt 28 m) file); number = 12; column = 28 }
+    ∷ record { test = only (isA *25* m) (1 ≤? definer *72* (numberAt 33 m) file); number = 12; column = 33 }
+    ∷ []
+
+-- ---- the list of f i, f (i + 1), ..: n places
+unfoldable pub tabulate : (ℕ → ℕ) → ℕ → ℕ → List ℕ
+tabulate f zero i = []
+tabulate f (suc n) i = f i ∷ tabulate f n (i + 1)
+
+-- word n is the record number of station n's *80*, word 10,000 + n of instrument n's *70*, word 11,000 + n of antenna n's *72*
+unfoldable pub wordAt : List Meaning → ℕ → ℕ
+wordAt ms j = cond (j ≤? 9_999) (definer *80* j ms) (cond (j ≤? 10_999) (definer *70* (j - 10_000) ms) (definer *72* (j - 11_000) ms))
+
+unfoldable pub words : List Meaning → List ℕ
+words ms = tabulate (wordAt ms) 12_000 0
+
+-- ---- 01, "a count of each kind of record"
+unfoldable pub tally : ℕ → List Meaning → ℕ
+tally k [] = 0
+tally k (m ∷ ms) = cond (isA k m) (1 + tally k ms) (tally k ms)
+
+unfoldable pub counts : List Meaning → List ℕ
+counts ms = tabulate (λ k. tally k ms) 14 0
