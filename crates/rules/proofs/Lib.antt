@@ -3,3 +3,4 @@ pub mod DigitLaws
 pub mod Lawful
 pub mod FieldLaws
 pub mod RecordLaws
+pub mod FileLaws

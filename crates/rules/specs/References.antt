@@ -30,16 +30,16 @@ unfoldable pub definer : ℕ → ℕ → List Meaning → ℕ
 definer k n ms = definerFrom 1 k n ms
 
 -- a test that is asked of one kind only
-unfoldable pub only : Bool → Bool → Bool
-only a b = cond a b true
+unfoldable pub asked : Bool → Bool → Bool
+asked a b = cond a b true
 
 -- 11: an *80* is the first with its number; 12: a *25* names numbers that some *80*, *70*, *72* of the whole file defines
 unfoldable pub refChecks : List Meaning → ℕ → Meaning → List Check
 refChecks file r m =
-    record { test = only (isA *80* m) (definer *80* (numberAt 11 m) file =? r); number = 11; column = 11 }
-    ∷ record { test = only (isA *25* m) (1 ≤? definer *80* (numberAt 11 m) file); number = 12; column = 11 }
-    ∷ record { test = only (isA *25* m) (1 ≤? definer *70* (numberAt 28 m) file); number = 12; column = 28 }
-    ∷ record { test = only (isA *25* m) (1 ≤? definer *72* (numberAt 33 m) file); number = 12; column = 33 }
+    record { test = asked (isA *80* m) (definer *80* (numberAt 11 m) file =? r); number = 11; column = 11 }
+    ∷ record { test = asked (isA *25* m) (1 ≤? definer *80* (numberAt 11 m) file); number = 12; column = 11 }
+    ∷ record { test = asked (isA *25* m) (1 ≤? definer *70* (numberAt 28 m) file); number = 12; column = 28 }
+    ∷ record { test = asked (isA *25* m) (1 ≤? definer *72* (numberAt 33 m) file); number = 12; column = 33 }
     ∷ []
 
 -- ---- the list of f i, f (i + 1), ..: n places

@@ -1,0 +1,192 @@
+-- A whole file: its lines, acceptance as tests of the lines and of the meaning, and demand 3.
+use mathlib.Core.Path.{_≡_, refl, sym, _∙_, ap, ap₂, subst}
+use mathlib.Core.Logic.{_↔_}
+use mathlib.Core.Bool.{Bool, true, false, cond, false≢true}
+use mathlib.Core.List.{List, [], _∷_, _++_, append-assoc, append-nil, map}
+use Prim.Native.Nat.{ℕ, zero, suc, _+_, _-_, _*_, _/_, _%_, _≤_, _<_}
+use native.Mathlib.Omega.{arith}
+use native.Mathlib.Numerals.{add-one}
+use lib.ListN.{length, length-append, length-map, length-drop, take, drop, getD}
+use lib.Seq.{take-at, drop-at, drop-drop, take-suc}
+use lib.IntN.{pos}
+use Rattle.rules.specs.Tests.{all, _&_, _≤?_, _=?_}
+use Rattle.rules.specs.Items.{num, valueOf}
+use Rattle.rules.specs.Fields.{Verdict, ok, fault, _⨾_, check, isOk, Check, run}
+use Rattle.rules.specs.Records.{Meaning, Edition, sequence, codeAt, judgeLine, meaning, style, formedLine, permitted, meant}
+use Rattle.rules.specs.Files.{Result, accept, refuse, isAccept, inRecord, andThen, lineAt, begun, linesFrom, lines, join, meanings, passed, walk, refer, verdict, accepted, styles, houseStyle, rewritten, formedLines, orderly}
+use Rattle.rules.proofs.Truth.{both, and, to≤, of≤, to≡, of≡, &-sort, true-and}
+use Rattle.rules.proofs.FieldLaws.{isOk-⨾, isOk-check}
+use Rattle.rules.proofs.RecordLaws.{Sound, judgeLine-splits, line-meant, style-meaning, style-formed, style-length, style-number}
+
+-- ---- results
+inRecord-accept : (r : ℕ) (v : Verdict) (q : Result) → isAccept (inRecord r v q) ≡ isOk v & isAccept q
+unfolding isAccept inRecord isOk _&_
+inRecord-accept r ok q = refl
+inRecord-accept r (fault n c) q = refl
+
+then-accept : (p q : Result) → isAccept (andThen p q) ≡ isAccept p & isAccept q
+unfolding isAccept andThen _&_
+then-accept accept q = refl
+then-accept (refuse n r c) q = refl
+
+final : (b : Bool) (n r c : ℕ) → isAccept (cond b accept (refuse n r c)) ≡ b
+unfolding isAccept
+final true n r c = refl
+final false n r c = refl
+
+-- ---- lines of 81 bytes
+unfoldable pub isLine : List ℕ → Bool
+isLine l = length l =? 81
+
+length-join : (ls : List (List ℕ)) → all isLine ls ≡ true → length (join ls) ≡ 81 * length ls
+unfolding join all isLine
+length-join [] h = refl
+length-join (l ∷ ls) h = length-append l (join ls) ∙ omega (arith, to≡ (both h .0), length-join ls (both h .1))
+
+-- the lines from i on of lines put together behind i lines
+join-lines : (p : List ℕ) (i : ℕ) (ls : List (List ℕ)) → length p ≡ 81 * i → all isLine ls ≡ true → linesFrom (p ++ join ls) (length ls) i ≡ ls
+unfolding join all isLine linesFrom lineAt
+join-lines p i [] e h = refl
+join-lines p i (l ∷ ls) e h =
+    let here : take 81 (drop (81 * i) (p ++ (l ++ join ls))) ≡ l = ap (take 81) (drop-at p (l ++ join ls) (81 * i) e) ∙ take-at l (join ls) 81 (to≡ (both h .0)) in
+    let far : length (p ++ l) ≡ 81 * (i + 1) = length-append p l ∙ omega (arith, to≡ (both h .0)) in
+    ap₂ _∷_ here (rw (← append-assoc) (join-lines (p ++ l) (i + 1) ls far (both h .1)))
+
+pub lines-join : (ls : List (List ℕ)) → all isLine ls ≡ true → lines (join ls) ≡ ls
+unfolding lines begun
+lines-join ls h =
+    ap (λ n. linesFrom (join ls) n 0) (count (length ls) (length (join ls)) (length-join ls h)) ∙ join-lines [] 0 ls refl h
+  where
+    count : (k n : ℕ) → n ≡ 81 * k → (n + 80) / 81 ≡ k
+    count k n e = omega arith
+
+-- one line after another, as a loop meets them
+pub length-lines : (f : List ℕ) (n i : ℕ) → length (linesFrom f n i) ≡ n
+unfolding linesFrom
+length-lines f zero i = refl
+length-lines f (suc n) i = ap suc (length-lines f n (i + 1))
+
+pub lines-more : (f : List ℕ) (n i : ℕ) → i < n → linesFrom f (n - i) i ≡ lineAt f i ∷ linesFrom f (n - (i + 1)) (i + 1)
+unfolding linesFrom
+lines-more f n i h = ap (λ k. linesFrom f k i) e
+  where
+    e : n - i ≡ suc (n - (i + 1))
+    e = omega arith
+
+pub lines-none : (f : List ℕ) (n i : ℕ) → n ≤ i → linesFrom f (n - i) i ≡ []
+unfolding linesFrom
+lines-none f n i h = ap (λ k. linesFrom f k i) e
+  where
+    e : n - i ≡ 0
+    e = omega arith
+
+lines-at : (f : List ℕ) (n i k : ℕ) → k < n → getD (linesFrom f n i) k [] ≡ lineAt f (i + k)
+unfolding linesFrom
+lines-at f zero i k h = absurd (omega arith)
+lines-at f (suc n) i zero h = ap (lineAt f) (omega arith)
+lines-at f (suc n) i (suc k) h = lines-at f n (i + 1) k (omega arith) ∙ ap (lineAt f) (omega arith)
+
+-- line i of a file, counted from 0
+pub line-at : (f : List ℕ) (i : ℕ) → i < begun f → getD (lines f) i [] ≡ lineAt f i
+unfolding lines
+line-at f i h = lines-at f (begun f) 0 i h ∙ ap (lineAt f) (omega arith)
+
+module _ {S : Type 0} (E : Edition S) where
+  -- ---- acceptance splits into a test of the lines and tests of the meaning
+  arrange : (a b c d e : Bool) → a & (b & c) & (d & e) ≡ a & b & d & (c & e)
+  arrange a b c d e = simp &-sort
+
+  walk-splits : (s : S) (r : ℕ) (ls : List (List ℕ)) → isAccept (walk E s r ls) ≡ formedLines E r ls & orderly E s (map (meaning E) ls)
+  unfolding walk formedLines orderly
+  walk-splits s r [] = final (E .ends s) 8 r 1 ∙ sym (true-and (E .ends s))
+  walk-splits s r (l ∷ ls) =
+      inRecord-accept r (check (r ≤? 99_999) 2 1 ⨾ judgeLine E s l) _
+      ∙ rw (isOk-⨾, isOk-check, judgeLine-splits E s l, walk-splits (E .next s (meaning E l)) (r + 1) ls) (arrange _ _ _ _ _)
+
+  pub accepted-splits : (f : List ℕ)
+      → accepted E f ≡ formedLines E 1 (lines f) & orderly E (E .start) (meanings E f) & isAccept (refer E (meanings E f) 1 (meanings E f))
+  unfolding accepted verdict meanings
+  accepted-splits f = then-accept _ _ ∙ rw (walk-splits (E .start) 1 (lines f))
+
+  -- ---- the lines of a rewritten file
+  module _ (sound : Sound E) where
+    styled-formed : (r : ℕ) (ls : List (List ℕ)) → 1 ≤ r → formedLines E r ls ≡ true → formedLines E r (styles E r (map (meaning E) ls)) ≡ true
+    unfolding formedLines styles
+    styled-formed r [] p h = refl
+    styled-formed r (l ∷ ls) p h =
+        and (and (both (both h .0) .0) (style-formed E sound r (meaning E l) (line-meant E l (both (both h .0) .1)) p (to≤ (both (both h .0) .0))))
+        (styled-formed (r + 1) ls (omega arith) (both h .1))
+
+    styled-means : (r : ℕ) (ls : List (List ℕ)) → 1 ≤ r → formedLines E r ls ≡ true → map (meaning E) (styles E r (map (meaning E) ls)) ≡ map (meaning E) ls
+    unfolding formedLines styles
+    styled-means r [] p h = refl
+    styled-means r (l ∷ ls) p h =
+        ap₂ _∷_ (style-meaning E sound r (meaning E l) (line-meant E l (both (both h .0) .1)) p (to≤ (both (both h .0) .0)))
+        (styled-means (r + 1) ls (omega arith) (both h .1))
+
+    styled-lines : (r : ℕ) (ls : List (List ℕ)) → 1 ≤ r → formedLines E r ls ≡ true → all isLine (styles E r (map (meaning E) ls)) ≡ true
+    unfolding formedLines styles all isLine
+    styled-lines r [] p h = refl
+    styled-lines r (l ∷ ls) p h =
+        and (of≡ (style-length E sound r (meaning E l) (line-meant E l (both (both h .0) .1)) p (to≤ (both (both h .0) .0))))
+        (styled-lines (r + 1) ls (omega arith) (both h .1))
+
+    styled-number : (r : ℕ) (ls : List (List ℕ)) → 1 ≤ r → formedLines E r ls ≡ true → (i : ℕ) → i < length ls
+        → valueOf sequence (take 6 (getD (styles E r (map (meaning E) ls)) i [])) ≡ num (pos (10 * (r + i)))
+    unfolding formedLines styles
+    styled-number r [] p h i k = absurd (omega arith)
+    styled-number r (l ∷ ls) p h zero k =
+        style-number E sound r (meaning E l) (line-meant E l (both (both h .0) .1)) p (to≤ (both (both h .0) .0)) ∙ ap (λ n. num (pos n)) (omega arith)
+    styled-number r (l ∷ ls) p h (suc i) k =
+        styled-number (r + 1) ls (omega arith) (both h .1) i (omega arith) ∙ ap (λ n. num (pos n)) (omega arith)
+
+  codes-of : (ls : List (List ℕ)) → map (λ m. m .code) (map (meaning E) ls) ≡ map codeAt ls
+  unfolding meaning
+  codes-of [] = refl
+  codes-of (l ∷ ls) = ap₂ _∷_ refl (codes-of ls)
+
+  -- ---- demand 3
+  module _ (sound : Sound E) (f : List ℕ) (h : accepted E f ≡ true) where
+    parts : formedLines E 1 (lines f) & orderly E (E .start) (meanings E f) & isAccept (refer E (meanings E f) 1 (meanings E f)) ≡ true
+    parts = sym (accepted-splits f) ∙ h
+
+    pub accepted-formed : formedLines E 1 (lines f) ≡ true
+    accepted-formed = both (both parts .0) .0
+
+    pub lines-rewritten : lines (rewritten E f) ≡ styles E 1 (meanings E f)
+    unfolding rewritten houseStyle meanings
+    lines-rewritten = lines-join (styles E 1 (meanings E f)) (styled-lines sound 1 (lines f) (omega arith) accepted-formed)
+
+    pub keeps-meaning : meanings E (rewritten E f) ≡ meanings E f
+    unfolding meanings
+    keeps-meaning = ap (map (meaning E)) lines-rewritten ∙ styled-means sound 1 (lines f) (omega arith) accepted-formed
+
+    styled : formedLines E 1 (styles E 1 (meanings E f)) ≡ true
+    unfolding meanings
+    styled = styled-formed sound 1 (lines f) (omega arith) accepted-formed
+
+    pub keeps-accepted : accepted E (rewritten E f) ≡ true
+    keeps-accepted =
+        accepted-splits (rewritten E f)
+        ∙ rw (lines-rewritten, keeps-meaning) (and (and styled (both (both parts .0) .1)) (both parts .1))
+
+    pub settled : rewritten E (rewritten E f) ≡ rewritten E f
+    unfolding rewritten
+    settled = ap (houseStyle E) keeps-meaning
+
+    pub keeps-codes : map codeAt (lines (rewritten E f)) ≡ map codeAt (lines f)
+    unfolding meanings
+    keeps-codes = sym (codes-of (lines (rewritten E f))) ∙ ap (map (λ m. m .code)) keeps-meaning ∙ codes-of (lines f)
+
+    pub keeps-records : length (lines (rewritten E f)) ≡ length (lines f)
+    unfolding meanings
+    keeps-records = sym (length-map (lines (rewritten E f)) (meaning E)) ∙ ap length keeps-meaning ∙ length-map (lines f) (meaning E)
+
+    pub numbered-anew : (i : ℕ) → i < length (lines f) → valueOf sequence (take 6 (getD (lines (rewritten E f)) i [])) ≡ num (pos (10 * (1 + i)))
+    unfolding meanings
+    numbered-anew i k = rw lines-rewritten (styled-number sound 1 (lines f) (omega arith) accepted-formed i k)
+
+  pub same-style-same-meaning : Sound E → (a b : List ℕ) → accepted E a ≡ true → accepted E b ≡ true → (rewritten E a ≡ rewritten E b) ↔ (meanings E a ≡ meanings E b)
+  unfolding rewritten
+  same-style-same-meaning sound a b h k =
+      ((λ e. sym (keeps-meaning sound a h) ∙ ap (meanings E) e ∙ keeps-meaning sound b k), (λ e. ap (houseStyle E) e))
