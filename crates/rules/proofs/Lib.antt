@@ -4,3 +4,5 @@ pub mod Lawful
 pub mod FieldLaws
 pub mod RecordLaws
 pub mod FileLaws
+pub mod FaultLaws
+pub mod FileFaults

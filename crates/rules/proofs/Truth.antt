@@ -1,11 +1,12 @@
 -- What tests that hold say, and their algebra.
-use mathlib.Core.Path.{_≡_, refl, sym, _∙_, ap, subst}
+use mathlib.Core.Path.{_≡_, refl, sym, _∙_, ap}
 use mathlib.Core.Logic.{_⊎_, inl, inr}
 use mathlib.Core.Bool.{Bool, true, false, cond, false≢true}
 use mathlib.Core.List.{List, [], _∷_, _++_}
-use Prim.Native.Nat.{ℕ, zero, suc, _≤_}
+use Prim.Native.Nat.{ℕ, zero, suc, _≤_, _<_}
+use native.Mathlib.Omega.{arith}
 use lib.ListN.{getD, replicate}
-use lib.Dec.{T, leb, eqb, leb→le, le→leb, eqb→eq, eqb-refl}
+use borrow.Author.Tests.{leb-true, leb-false, le-leb, lt-leb, eqb-true, eq-eqb, ne-eqb}
 use Rattle.rules.specs.Tests.{_&_, _≤?_, _=?_, within, all}
 
 pub both : {a b : Bool} → a & b ≡ true → (a ≡ true) × (b ≡ true)
@@ -18,25 +19,21 @@ unfolding _&_
 and {a = true} h k = k
 and {a = false} h k = absurd (false≢true h)
 
-from-T : (b : Bool) → T b → b ≡ true
-from-T true t = refl
-from-T false t = absurd t
-
 pub to≤ : {m n : ℕ} → m ≤? n ≡ true → m ≤ n
 unfolding _≤?_
-to≤ {m} {n} h = leb→le m n (subst T (sym h) tt)
+to≤ {m} {n} h = leb-true m n h
 
 pub of≤ : {m n : ℕ} → m ≤ n → m ≤? n ≡ true
 unfolding _≤?_
-of≤ {m} {n} h = from-T (leb m n) (le→leb m n h)
+of≤ {m} {n} h = le-leb m n h
 
 pub to≡ : {m n : ℕ} → m =? n ≡ true → m ≡ n
 unfolding _=?_
-to≡ {m} {n} h = eqb→eq m n (subst T (sym h) tt)
+to≡ {m} {n} h = eqb-true m n h
 
 pub of≡ : {m n : ℕ} → m ≡ n → m =? n ≡ true
 unfolding _=?_
-of≡ {m} {n} e = subst (λ k. m =? k ≡ true) e (from-T (eqb m m) (eqb-refl m))
+of≡ {m} {n} h = eq-eqb m n h
 
 pub to-within : {lo hi b : ℕ} → within lo hi b ≡ true → (lo ≤ b) × (b ≤ hi)
 unfolding within
@@ -58,11 +55,20 @@ is-no false f = refl
 pub not-both : {t : Bool} → t ≡ true → t ≡ false → ⊥
 not-both h k = false≢true (sym k ∙ h)
 
-pub no≤ : {m n : ℕ} → m ≤? n ≡ false → m ≤ n → ⊥
-no≤ h e = not-both (of≤ e) h
+pub no≤ : {m n : ℕ} → m ≤? n ≡ false → n < m
+unfolding _≤?_
+no≤ {m} {n} h = leb-false m n h
+
+pub of> : {m n : ℕ} → n < m → m ≤? n ≡ false
+unfolding _≤?_
+of> {m} {n} h = lt-leb m n h
 
 pub no≡ : {m n : ℕ} → m =? n ≡ false → m ≡ n → ⊥
 no≡ h e = not-both (of≡ e) h
+
+pub of≢ : {m n : ℕ} → (m ≡ n → ⊥) → m =? n ≡ false
+unfolding _=?_
+of≢ {m} {n} h = ne-eqb m n h
 
 -- a choice of two tests
 pub choice : (a b : Bool) → cond a true b ≡ true → (P : Type 0) → (a ≡ true → P) → (b ≡ true → P) → P
@@ -72,6 +78,10 @@ choice false b h P f g = g h
 pub either : {A B C : Type 0} → (A → C) → (B → C) → A ⊎ B → C
 either f g (inl a) = f a
 either f g (inr b) = g b
+
+-- at most is below or equal
+pub below-or-equal : (c d : ℕ) → c ≤ d → (c < d) ⊎ (c ≡ d)
+below-or-equal c d k = cases (suc c ≤? d) (λ e. inl (to≤ e)) (λ e. inr (omega (arith, no≤ e)))
 
 module _ {A : Type 0} where
   pub all-append : (p : A → Bool) (xs ys : List A) → all p xs ≡ true → all p ys ≡ true → all p (xs ++ ys) ≡ true

@@ -46,17 +46,19 @@ FieldFaults e xs x n c = Fails (x .formed) 9 (x .column + x .spot) n c ⊎ ((x .
 abbrev pub CheckFaults : Check → Faults
 CheckFaults k = Fails (k .test) (k .number) (k .column)
 
--- ---- the order: 1; then record by record 2, then 3 4 5, 6, 7, then 9 and 10; 8 where the next record would be; then 11 and 12
-unfoldable pub phase : ℕ → ℕ
-phase n = getD (3 ∷ 0 ∷ 1 ∷ 1 ∷ 1 ∷ 1 ∷ 1 ∷ 1 ∷ 1 ∷ 1 ∷ 1 ∷ 2 ∷ 2 ∷ []) n 3
-
+-- ---- the order: within a record 2, then 3 4 5, 6, 7, then 9 and 10; 8 stands alone, where the next record would be
 unfoldable pub stage : ℕ → ℕ
-stage n = getD (9 ∷ 0 ∷ 0 ∷ 1 ∷ 1 ∷ 1 ∷ 2 ∷ 3 ∷ 0 ∷ 4 ∷ 4 ∷ 5 ∷ 5 ∷ []) n 9
+stage n = getD (9 ∷ 9 ∷ 0 ∷ 1 ∷ 1 ∷ 1 ∷ 2 ∷ 3 ∷ 0 ∷ 4 ∷ 4 ∷ 5 ∷ 5 ∷ []) n 9
 
--- within a record: by stage, then the lowest column, 9 before 10
+-- 1 first; then record by record; only a file with none of these is judged for 11 and 12
+unfoldable pub phase : ℕ → ℕ
+phase n = cond (n =? 1) 0 (cond (stage n ≤? 4) 1 2)
+
+-- by stage, then the lowest column, 9 before 10
 unfoldable pub Before : ℕ → ℕ → ℕ → ℕ → Type 0
 Before n c n′ c′ = (stage n < stage n′) ⊎ ((stage n ≡ stage n′) × ((c < c′) ⊎ ((c ≡ c′) × (n ≤ n′))))
 
+-- by phase, then the earliest record
 unfoldable pub Precedes : ℕ → ℕ → ℕ → ℕ → ℕ → ℕ → Type 0
 Precedes n r c n′ r′ c′ = (phase n < phase n′) ⊎ ((phase n ≡ phase n′) × ((r < r′) ⊎ ((r ≡ r′) × Before n c n′ c′)))
 
@@ -89,7 +91,10 @@ module _ {S : Type 0} (E : Edition S) where
 
   -- of a kind, a sequence number and a meaning, as write judges them
   unfoldable pub GivenFaults : ℕ → Value → Meaning → Faults
-  GivenFaults k q m = Fails (fits sequence q) 9 1 ∪ Fails (ofKind E k m) 9 7 ∪ Some (FieldFaults anything (told E m)) (told E m)
+  GivenFaults k q m =
+      Fails (fits sequence q) 9 1
+      ∪ Fails (ofKind E k m) 9 7
+      ∪ (λ n c. (ofKind E k m ≡ true) × Some (FieldFaults anything (told E m)) (told E m) n c)
 
   -- of record r: a record 100,000 has begun; its line
   unfoldable pub RecordFaults : S → ℕ → List ℕ → Faults
