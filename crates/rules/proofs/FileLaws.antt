@@ -16,10 +16,10 @@ use Rattle.rules.specs.Records.{Meaning, Edition, sequence, codeAt, judg
 use Rattle.rules.specs.Files.{Result, accept, refuse, isAccept, inRecord, andThen, lineAt, begun, linesFrom, lines, join, meanings, passed, walk, refer, verdict, accepted, styles, houseStyle, rewritten, formedLines, orderly}
 use Rattle.rules.proofs.Truth.{both, and, to≤, of≤, to≡, of≡, &-sort, true-and}
 use Rattle.rules.proofs.FieldLaws.{isOk-⨾, isOk-check}
-use Rattle.rules.proofs.RecordLaws.{Sound, judgeLine-splits, line-meant, style-meaning, style-formed, style-length, style-number}
+use Rattle.rules.proofs.RecordLaws.{Sound, judgeLine-splits, line-meant, line-long, style-meaning, style-formed, style-length, style-number}
 
 -- ---- results
-inRecord-accept : (r : ℕ) (v : Verdict) (q : Result) → isAccept (inRecord r v q) ≡ isOk v & isAccept q
+pub inRecord-accept : (r : ℕ) (v : Verdict) (q : Result) → isAccept (inRecord r v q) ≡ isOk v & isAccept q
 unfolding isAccept inRecord isOk _&_
 inRecord-accept r ok q = refl
 inRecord-accept r (fault n c) q = refl
@@ -91,6 +91,19 @@ pub line-at : (f : List ℕ) (i : ℕ) → i < begun f → getD (lines f) i [] �
 unfolding lines
 line-at f i h = lines-at f (begun f) 0 i h ∙ ap (lineAt f) (omega arith)
 
+-- a line of more than 80 bytes is there to its end
+length-take-least : (k n : ℕ) (l : List ℕ) → k < length (take n l) → k < length l
+length-take-least k zero l h = absurd (omega arith)
+length-take-least k (suc n) [] h = absurd (omega arith)
+length-take-least zero (suc n) (b ∷ l) h = omega arith
+length-take-least (suc k) (suc n) (b ∷ l) h = let j : k < length l = length-take-least k n l (omega arith) in omega arith
+
+reaches : (f : List ℕ) (i : ℕ) → 80 < length (lineAt f (0 + i)) → 80 < length f - 81 * i
+unfolding lineAt
+reaches f i h =
+    let e : 0 + i ≡ i = omega arith in
+    subst (λ n. 80 < n) (length-drop (81 * i) f) (length-take-least 80 81 (drop (81 * i) f) (subst (λ j. 80 < length (take 81 (drop (81 * j) f))) e h))
+
 module _ {S : Type 0} (E : Edition S) where
   -- ---- acceptance splits into a test of the lines and tests of the meaning
   arrange : (a b c d e : Bool) → a & (b & c) & (d & e) ≡ a & b & d & (c & e)
@@ -107,6 +120,20 @@ module _ {S : Type 0} (E : Edition S) where
       → accepted E f ≡ formedLines E 1 (lines f) & orderly E (E .start) (meanings E f) & isAccept (refer E (meanings E f) 1 (meanings E f))
   unfolding accepted verdict meanings
   accepted-splits f = then-accept _ _ ∙ rw (walk-splits (E .start) 1 (lines f))
+
+  pub accepted-parts : (f : List ℕ) → accepted E f ≡ true
+      → (formedLines E 1 (lines f) ≡ true) × (orderly E (E .start) (meanings E f) ≡ true) × (isAccept (refer E (meanings E f) 1 (meanings E f)) ≡ true)
+  accepted-parts f h = let parts = both (sym (accepted-splits f) ∙ h) in (both (parts .0) .0, both (parts .0) .1, parts .1)
+
+  -- every record of a file with formed lines is one that can be meant
+  pub formed-meant : (r : ℕ) (ls : List (List ℕ)) → formedLines E r ls ≡ true → all (meant E) (map (meaning E) ls) ≡ true
+  unfolding formedLines all
+  formed-meant r [] h = refl
+  formed-meant r (l ∷ ls) h = and (line-meant E l (both (both h .0) .1)) (formed-meant (r + 1) ls (both h .1))
+
+  pub accepted-meant : (f : List ℕ) → accepted E f ≡ true → all (meant E) (meanings E f) ≡ true
+  unfolding meanings
+  accepted-meant f h = formed-meant 1 (lines f) (accepted-parts f h .0)
 
   -- ---- the lines of a rewritten file
   module _ (sound : Sound E) where
@@ -145,30 +172,44 @@ module _ {S : Type 0} (E : Edition S) where
   codes-of [] = refl
   codes-of (l ∷ ls) = ap₂ _∷_ refl (codes-of ls)
 
+  -- formed lines are whole, so the file ends with a whole line
+  formed-last : (f : List ℕ) (n i r : ℕ) → formedLines E r (linesFrom f (suc n) i) ≡ true → 80 < length (lineAt f (i + n))
+  unfolding formedLines linesFrom
+  formed-last f zero i r h = let e : lineAt f i ≡ lineAt f (i + 0) = ap (lineAt f) (omega arith) in subst (λ l. 80 < length l) e (line-long E (lineAt f i) (both (both h .0) .1))
+  formed-last f (suc n) i r h =
+      let e : lineAt f (i + 1 + n) ≡ lineAt f (i + suc n) = ap (lineAt f) (omega arith) in
+      subst (λ l. 80 < length l) e (formed-last f n (i + 1) (r + 1) (both h .1))
+
+  whole-by : (f : List ℕ) (n : ℕ) → begun f ≡ n → formedLines E 1 (linesFrom f n 0) ≡ true → length f ≡ 81 * n
+  unfolding begun
+  whole-by f zero e h = omega arith
+  whole-by f (suc n) e h = let long : 80 < length f - 81 * n = reaches f n (formed-last f n 0 1 h) in omega arith
+
+  pub formed-whole : (f : List ℕ) → formedLines E 1 (lines f) ≡ true → length f ≡ 81 * length (lines f)
+  unfolding lines
+  formed-whole f h = whole-by f (begun f) refl h ∙ ap (λ n. 81 * n) (sym (length-lines f (begun f) 0))
+
   -- ---- demand 3
   module _ (sound : Sound E) (f : List ℕ) (h : accepted E f ≡ true) where
-    parts : formedLines E 1 (lines f) & orderly E (E .start) (meanings E f) & isAccept (refer E (meanings E f) 1 (meanings E f)) ≡ true
-    parts = sym (accepted-splits f) ∙ h
-
-    pub accepted-formed : formedLines E 1 (lines f) ≡ true
-    accepted-formed = both (both parts .0) .0
+    form : formedLines E 1 (lines f) ≡ true
+    form = accepted-parts f h .0
 
     pub lines-rewritten : lines (rewritten E f) ≡ styles E 1 (meanings E f)
     unfolding rewritten houseStyle meanings
-    lines-rewritten = lines-join (styles E 1 (meanings E f)) (styled-lines sound 1 (lines f) (omega arith) accepted-formed)
+    lines-rewritten = lines-join (styles E 1 (meanings E f)) (styled-lines sound 1 (lines f) (omega arith) form)
 
     pub keeps-meaning : meanings E (rewritten E f) ≡ meanings E f
     unfolding meanings
-    keeps-meaning = ap (map (meaning E)) lines-rewritten ∙ styled-means sound 1 (lines f) (omega arith) accepted-formed
+    keeps-meaning = ap (map (meaning E)) lines-rewritten ∙ styled-means sound 1 (lines f) (omega arith) form
 
     styled : formedLines E 1 (styles E 1 (meanings E f)) ≡ true
     unfolding meanings
-    styled = styled-formed sound 1 (lines f) (omega arith) accepted-formed
+    styled = styled-formed sound 1 (lines f) (omega arith) form
 
     pub keeps-accepted : accepted E (rewritten E f) ≡ true
     keeps-accepted =
         accepted-splits (rewritten E f)
-        ∙ rw (lines-rewritten, keeps-meaning) (and (and styled (both (both parts .0) .1)) (both parts .1))
+        ∙ rw (lines-rewritten, keeps-meaning) (and (and styled (accepted-parts f h .1)) (accepted-parts f h .2))
 
     pub settled : rewritten E (rewritten E f) ≡ rewritten E f
     unfolding rewritten
@@ -182,9 +223,16 @@ module _ {S : Type 0} (E : Edition S) where
     unfolding meanings
     keeps-records = sym (length-map (lines (rewritten E f)) (meaning E)) ∙ ap length keeps-meaning ∙ length-map (lines f) (meaning E)
 
+    -- an accepted file is whole lines, and so is its rewriting
+    pub accepted-whole : length f ≡ 81 * length (lines f)
+    accepted-whole = formed-whole f form
+
+    pub keeps-length : length (rewritten E f) ≡ length f
+    keeps-length = formed-whole (rewritten E f) (accepted-parts (rewritten E f) keeps-accepted .0) ∙ ap (λ n. 81 * n) keeps-records ∙ sym accepted-whole
+
     pub numbered-anew : (i : ℕ) → i < length (lines f) → valueOf sequence (take 6 (getD (lines (rewritten E f)) i [])) ≡ num (pos (10 * (1 + i)))
     unfolding meanings
-    numbered-anew i k = rw lines-rewritten (styled-number sound 1 (lines f) (omega arith) accepted-formed i k)
+    numbered-anew i k = rw lines-rewritten (styled-number sound 1 (lines f) (omega arith) form i k)
 
   pub same-style-same-meaning : Sound E → (a b : List ℕ) → accepted E a ≡ true → accepted E b ≡ true → (rewritten E a ≡ rewritten E b) ↔ (meanings E a ≡ meanings E b)
   unfolding rewritten

@@ -42,7 +42,7 @@ pub digit-printable : (b : ℕ) → isDigit b ≡ true → isPrintable b ≡ tru
 unfolding isDigit
 digit-printable b h = range-printable b (omega arith) (omega arith) h
 
-letter-printable : (b : ℕ) → isLetter b ≡ true → isPrintable b ≡ true
+pub letter-printable : (b : ℕ) → isLetter b ≡ true → isPrintable b ≡ true
 unfolding isLetter
 letter-printable b h = range-printable b (omega arith) (omega arith) h
 
@@ -77,7 +77,7 @@ member-printable (only c) b h = both h .0
 member-printable (s or t) b h = choice (member s b) (member t b) h _ (member-printable s b) (member-printable t b)
 
 -- ---- blanks and constants
-blanks : (w : ℕ) → all isBlank (replicate w 32) ≡ true
+pub blanks : (w : ℕ) → all isBlank (replicate w 32) ≡ true
 unfolding isBlank _=?_
 blanks w = all-replicate isBlank 32 refl w
 
@@ -128,12 +128,12 @@ unfolding all _&_
 digits-not-blank [] h k = absurd (omega arith)
 digits-not-blank (b ∷ bs) h k = rw (digit-not-blank b (both h .0))
 
-blanks-numForm : (bs : List ℕ) → all isBlank bs ≡ true → numForm bs ≡ true
+pub blanks-numForm : (bs : List ℕ) → all isBlank bs ≡ true → numForm bs ≡ true
 unfolding all numForm
 blanks-numForm [] h = refl
 blanks-numForm (b ∷ bs) h = rw (both h .0) (blanks-numForm bs (both h .1))
 
-digits-numForm : (bs : List ℕ) → all isDigit bs ≡ true → numForm bs ≡ true
+pub digits-numForm : (bs : List ℕ) → all isDigit bs ≡ true → numForm bs ≡ true
 unfolding all numForm
 digits-numForm [] h = refl
 digits-numForm (b ∷ bs) h = rw (digit-not-blank b (both h .0)) h
@@ -156,21 +156,21 @@ number-lawful w lo hi may (text t) h = absurd (false≢true h)
 number-lawful w lo hi may (label m d y s t) h = absurd (false≢true h)
 
 -- ---- heights
-blanks-heightForm : (bs : List ℕ) → all isBlank bs ≡ true → heightForm bs ≡ true
+pub blanks-heightForm : (bs : List ℕ) → all isBlank bs ≡ true → heightForm bs ≡ true
 unfolding all heightForm
 blanks-heightForm [] h = refl
 blanks-heightForm (b ∷ bs) h = rw (both h .0) (blanks-heightForm bs (both h .1))
 
-digit-not-minus : (b : ℕ) → isDigit b ≡ true → b =? 45 ≡ false
+pub digit-not-minus : (b : ℕ) → isDigit b ≡ true → b =? 45 ≡ false
 unfolding isDigit
 digit-not-minus b h = is-no (b =? 45) (λ e. omega (arith, to≡ e, to-within h .0))
 
-digits-heightForm : (bs : List ℕ) → all isDigit bs ≡ true → heightForm bs ≡ true
+pub digits-heightForm : (bs : List ℕ) → all isDigit bs ≡ true → heightForm bs ≡ true
 unfolding all heightForm
 digits-heightForm [] h = refl
 digits-heightForm (b ∷ bs) h = rw (digit-not-blank b (both h .0), digit-not-minus b (both h .0)) h
 
-digits-no-minus : (bs : List ℕ) → all isDigit bs ≡ true → minus bs ≡ false
+pub digits-no-minus : (bs : List ℕ) → all isDigit bs ≡ true → minus bs ≡ false
 unfolding all minus
 digits-no-minus [] h = refl
 digits-no-minus (b ∷ bs) h = rw (digit-not-blank b (both h .0)) (digit-not-minus b (both h .0))

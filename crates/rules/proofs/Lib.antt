@@ -6,3 +6,8 @@ pub mod RecordLaws
 pub mod FileLaws
 pub mod FaultLaws
 pub mod FileFaults
+pub mod Chapter4Laws
+pub mod Demands
+pub mod ReferenceLaws
+pub mod TableLaws
+pub mod FormLaws

@@ -13,3 +13,5 @@ pub mod Chapter4
 pub mod Faults
 pub mod Calls
 pub mod Sheet
+pub mod Demands
+pub mod Forms

@@ -4,6 +4,7 @@ use mathlib.Core.List.{List, [], _∷_}
 use Prim.Native.Nat.{ℕ}
 use lib.ListN.{getD}
 use Rattle.rules.specs.Tests.{_=?_}
+use Rattle.rules.specs.Characters.{anyOf}
 use Rattle.rules.specs.Kinds.{*AA*, *10*, *11*, *12*, *25*, *26*, *27*, *70*, *72*, *80*, *86*, *91*, *92*, *93*}
 
 -- ---- the places, by what stands before; a place of 0 is also the answer "may not come here", since nothing leads back to the start
@@ -89,6 +90,10 @@ placeAfter place kind = getD (job ∷ after10 ∷ after11 ∷ after12 ∷ after2
 
     measured : ℕ
     measured = cond (place =? first27) second27 (cond (place =? second27) third27 first27)
+
+-- what the paper says of a kind at a place: the place that it makes, 0 where it may not come
+unfoldable pub ruled : ℕ → ℕ → ℕ
+ruled place kind = cond (anyOf (getD mayCome place []) kind) (placeAfter place kind) 0
 
 -- ---- the same as an array of rows over the fourteen kinds: the next place, 0 where the kind may not come
 unfoldable pub order : List (List ℕ)

@@ -1,9 +1,10 @@
 -- 01, "A station number is defined by its *80*, and by one only; each *25* names a defined station, instrument and antenna",
 -- and "Memory": the words of the lent table.
+use mathlib.Core.Path.{_≡_}
 use mathlib.Core.Bool.{Bool, true, false, cond}
 use mathlib.Core.List.{List, [], _∷_, _++_}
-use Prim.Native.Nat.{ℕ, zero, suc, _+_, _-_}
-use lib.ListN.{length}
+use Prim.Native.Nat.{ℕ, zero, suc, _+_, _-_, _<_}
+use lib.ListN.{length, getD, set}
 use Rattle.rules.specs.Tests.{_&_, _≤?_, _=?_}
 use Rattle.rules.specs.Fields.{Check, valueAt, entriesOf, numOf}
 use Rattle.rules.specs.Records.{Meaning}
@@ -54,6 +55,19 @@ wordAt ms j = cond (j ≤? 9_999) (definer *80* j ms) (cond (j ≤? 10_999) (def
 unfoldable pub words : List Meaning → List ℕ
 words ms = tabulate (wordAt ms) 12_000 0
 
+-- the same as a pass over the records fills it: each record that defines a number puts its own into a word that is still 0
+-- the word that a record defines, 12,000 where it defines none
+unfoldable pub slotOf : Meaning → ℕ
+slotOf m =
+    cond (isA *80* m) (numberAt 11 m) (cond (isA *70* m) (10_000 + numberAt 11 m) (cond (isA *72* m) (11_000 + numberAt 11 m) 12_000))
+
+unfoldable pub mark : ℕ → ℕ → List ℕ → List ℕ
+mark r j table = cond (getD table j 0 =? 0) (set table j r) table
+
+unfoldable pub filled : ℕ → List Meaning → List ℕ → List ℕ
+filled r [] table = table
+filled r (m ∷ ms) table = filled (r + 1) ms (mark r (slotOf m) table)
+
 -- ---- 01, "a count of each kind of record"
 unfoldable pub tally : ℕ → List Meaning → ℕ
 tally k [] = 0
@@ -61,3 +75,20 @@ tally k (m ∷ ms) = cond (isA k m) (1 + tally k ms) (tally k ms)
 
 unfoldable pub counts : List Meaning → List ℕ
 counts ms = tabulate (λ k. tally k ms) 14 0
+
+-- ---- the references as the paper says them, record i + 1 of a file being ms at i
+unfoldable pub blankRecord : Meaning
+blankRecord = record { code = []; values = [] }
+
+-- record i + 1 is of kind k and has number n
+unfoldable pub Defines : List Meaning → ℕ → ℕ → ℕ → Type 0
+Defines ms k n i = (i < length ms) × (defines k n (getD ms i blankRecord) ≡ true)
+
+pub record Named (ms : List Meaning) (m : Meaning) : Type 0 where
+  pub station : (i : ℕ) × Defines ms *80* (numberAt 11 m) i
+  pub instrument : (i : ℕ) × Defines ms *70* (numberAt 28 m) i
+  pub antenna : (i : ℕ) × Defines ms *72* (numberAt 33 m) i
+
+pub record Referred (ms : List Meaning) : Type 0 where
+  pub one-only : (n i j : ℕ) → Defines ms *80* n i → Defines ms *80* n j → i ≡ j
+  pub named : (i : ℕ) → i < length ms → isA *25* (getD ms i blankRecord) ≡ true → Named ms (getD ms i blankRecord)

@@ -1,0 +1,94 @@
+-- Chapter 4 is a sound edition: its codes have four characters, its layouts fill columns 11-80, its references are judged in the paper's order.
+use mathlib.Core.Path.{_≡_, refl, sym, _∙_, ap}
+use mathlib.Core.Bool.{Bool, true, false, cond, false≢true}
+use mathlib.Core.List.{List, [], _∷_, map}
+use Prim.Native.Nat.{ℕ, zero, suc, _+_, _≤_, _<_}
+use native.Mathlib.Omega.{arith}
+use lib.ListN.{length, getD}
+use Rattle.rules.specs.Tests.{all, within, _&_, _≤?_, _=?_}
+use Rattle.rules.specs.Characters.{isPrintable, isDigit, isLetter, anyOf, letter, digit, _or_, member}
+use Rattle.rules.specs.Digits.{val}
+use Rattle.rules.specs.Items.{latitude, longitude, columns, width}
+use Rattle.rules.specs.Fields.{Field, Check, covers}
+use Rattle.rules.specs.Records.{Meaning, Edition, knownCode}
+use Rattle.rules.specs.Kinds.{dataCodes, kindFrom, starred, kindBetween, kindOf}
+use Rattle.rules.specs.Layouts.{at, tied, station, instrument, antenna, initials, state, anyText, metres, letterOrBlank, kept, titled, project, occupation, comment, measurement, receiver, aerial, point, heights, layouts, layout}
+use Rattle.rules.specs.Order.{mayCome, placeAfter, ruled, order, goto}
+use Rattle.rules.specs.References.{refChecks}
+use Rattle.rules.specs.Faults.{stage, phase}
+use Rattle.rules.specs.Chapter4.{Past, chapter4}
+use Rattle.rules.proofs.Truth.{both, and, to≤, to≡, of-within, cases, choice, either, below-or-equal, all-getD}
+use Rattle.rules.proofs.Lawful.{digit-printable, letter-printable}
+use Rattle.rules.proofs.RecordLaws.{Sound}
+use Rattle.rules.proofs.FaultLaws.{sorted, beforeAll}
+use Rattle.rules.proofs.FileFaults.{SoundRefs, allLate}
+
+-- ---- each layout covers columns 11-80 without gap or overlap: one computed test over all of them
+layouts-cover : all (covers 11) layouts ≡ true
+unfolding all covers layouts kept titled project occupation comment measurement receiver aerial point heights at tied station instrument antenna initials state anyText metres letterOrBlank width columns _=?_ _≤?_ _&_
+layouts-cover = refl
+
+kept-covers : covers 11 kept ≡ true
+unfolding covers kept at anyText width _=?_ _≤?_ _&_
+kept-covers = refl
+
+pub layout-covers : (c : List ℕ) → covers 11 (layout c) ≡ true
+unfolding layout
+layout-covers c = all-getD (covers 11) layouts kept (kindOf c) layouts-cover kept-covers
+
+-- ---- a known code is four printable characters
+between-printable : (a b : ℕ) → kindBetween a b ≤? 13 ≡ true → (isPrintable a ≡ true) × (isPrintable b ≡ true)
+unfolding kindBetween
+between-printable a b h =
+    cases (isDigit a & isDigit b)
+    (λ e. (digit-printable a (both e .0), digit-printable b (both e .1)))
+    (λ e. cases (isLetter a & member (letter or digit) b)
+    (λ k. (letter-printable a (both k .0), second (both k .1)))
+    (λ k. absurd (omega (arith, to≤ (rw (e, k) at h)))))
+  where
+    second : member (letter or digit) b ≡ true → isPrintable b ≡ true
+    second k = unfold member in choice (isLetter b) (isDigit b) k _ (letter-printable b) (digit-printable b)
+
+spelled : (c : List ℕ) → starred c ≡ true → kindBetween (getD c 1 0) (getD c 2 0) ≤? 13 ≡ true → (length c ≡ 4) × (all isPrintable c ≡ true)
+unfolding starred all
+spelled [] e h = absurd (omega (arith, to≡ (both (both e .0) .0)))
+spelled (a ∷ []) e h = absurd (omega (arith, to≡ (both (both e .0) .0)))
+spelled (a ∷ b ∷ []) e h = absurd (omega (arith, to≡ (both (both e .0) .0)))
+spelled (a ∷ b ∷ c ∷ []) e h = absurd (omega (arith, to≡ (both (both e .0) .0)))
+spelled (a ∷ b ∷ c ∷ d ∷ []) e h =
+    let between = between-printable b c h in
+    (refl, and (star a (to≡ (both (both e .0) .1))) (and (between .0) (and (between .1) (and (star d (to≡ (both e .1))) refl))))
+  where
+    star : (x : ℕ) → x ≡ 42 → isPrintable x ≡ true
+    star x z = unfold isPrintable in of-within (omega arith) (omega arith)
+spelled (a ∷ b ∷ c ∷ d ∷ x ∷ xs) e h = absurd (omega (arith, to≡ (both (both e .0) .0)))
+
+known-four : (c : List ℕ) → kindOf c ≤? 13 ≡ true → (length c ≡ 4) × (all isPrintable c ≡ true)
+unfolding kindOf
+known-four c h = cases (starred c) (λ e. spelled c e (rw e at h)) (λ e. absurd (omega (arith, to≤ (rw e at h))))
+
+pub sound : Sound chapter4
+sound = record { four = λ c h. known-four c (unfold knownCode in h); filled = λ c h. layout-covers c }
+
+pub sound-refs : SoundRefs chapter4
+sound-refs = record {
+  in-order = λ file r m. unfold sorted beforeAll refChecks stage _=?_ _≤?_ _&_ in refl;
+  late = λ file r m. unfold allLate refChecks phase stage _=?_ _≤?_ _&_ in refl;
+}
+
+-- ---- the array of rows is the paper's table: one computed test over all places and kinds, and a lemma that holds for any table
+unfoldable pub allBelow : ℕ → (ℕ → Bool) → Bool
+allBelow zero p = true
+allBelow (suc n) p = p n & allBelow n p
+
+pub below-holds : (n : ℕ) (p : ℕ → Bool) → allBelow n p ≡ true → (i : ℕ) → i < n → p i ≡ true
+unfolding allBelow
+below-holds zero p h i k = absurd (omega arith)
+below-holds (suc n) p h i k = either (λ l. below-holds n p (both h .1) i l) (λ e. rw e (both h .0)) (below-or-equal i n (omega arith))
+
+order-agrees : allBelow 17 (λ p. allBelow 14 (λ k. goto p k =? ruled p k)) ≡ true
+unfolding allBelow goto ruled order mayCome placeAfter anyOf _=?_ _&_
+order-agrees = refl
+
+pub order-is-the-table : (place kind : ℕ) → place < 17 → kind < 14 → goto place kind ≡ ruled place kind
+order-is-the-table place kind p k = to≡ (below-holds 14 _ (below-holds 17 _ order-agrees place p) kind k)

@@ -1,0 +1,53 @@
+-- The demands, proved for Chapter 4.
+use mathlib.Core.Path.{_≡_, refl, sym, _∙_, ap}
+use mathlib.Core.Logic.{_↔_}
+use mathlib.Core.Bool.{Bool, true, false}
+use mathlib.Core.List.{List, [], _∷_, map}
+use Prim.Native.Nat.{ℕ, _+_, _*_, _<_}
+use native.Mathlib.Omega.{arith}
+use lib.ListN.{length}
+use Rattle.rules.specs.Records.{codeAt}
+use Rattle.rules.specs.Files.{Result, lines, meanings, verdict, accepted, rewritten}
+use Rattle.rules.specs.Kinds.{kindOf}
+use Rattle.rules.specs.Faults.{FirstOf, HasFault, CallFaults}
+use Rattle.rules.specs.Calls.{outcome}
+use Rattle.rules.specs.Chapter4.{chapter4}
+use Rattle.rules.specs.Demands.{Demand2, Demand3}
+use Rattle.rules.proofs.FileLaws.{keeps-accepted, keeps-meaning, keeps-codes, keeps-records, keeps-length, settled, numbered-anew, same-style-same-meaning}
+use Rattle.rules.proofs.FileFaults.{one-first, none-iff, first-verdict, first-outcome}
+use Rattle.rules.proofs.Chapter4Laws.{sound, sound-refs}
+
+-- the first fault
+pub first-fault : (enough : Bool) (f : List ℕ) → FirstOf (CallFaults chapter4 enough f) (outcome enough f)
+unfolding outcome
+first-fault enough f = first-outcome chapter4 sound sound-refs enough f
+
+pub accepted-iff : (f : List ℕ) → (accepted chapter4 f ≡ true) ↔ ((n r c : ℕ) → HasFault chapter4 f n r c → ⊥)
+unfolding accepted
+accepted-iff f = none-iff (HasFault chapter4 f) (verdict chapter4 f) (first-verdict chapter4 sound sound-refs f)
+
+pub demand-2 : (enough : Bool) (f : List ℕ) → Demand2 enough f
+demand-2 enough f = record {
+  first = first-fault enough f;
+  unique = λ v h. one-first (CallFaults chapter4 enough f) v (outcome enough f) h (first-fault enough f);
+  exactly = accepted-iff f;
+}
+
+pub demand-3 : (a b : List ℕ) → accepted chapter4 a ≡ true → accepted chapter4 b ≡ true → Demand3 a b
+demand-3 a b h k = record {
+  same = same-style-same-meaning chapter4 sound a b h k;
+  accepted-again = keeps-accepted chapter4 sound a h;
+  means = keeps-meaning chapter4 sound a h;
+  as-many = keeps-records chapter4 sound a h;
+  as-long = keeps-length chapter4 sound a h;
+  kinds = keeps-kinds (lines (rewritten chapter4 a)) (lines a) (keeps-codes chapter4 sound a h);
+  settled = settled chapter4 sound a h;
+  numbered = numbered-anew chapter4 sound a h;
+}
+  where
+    twice : (ls : List (List ℕ)) → map kindOf (map codeAt ls) ≡ map (λ l. kindOf (codeAt l)) ls
+    twice [] = refl
+    twice (l ∷ ls) = ap (λ ks. kindOf (codeAt l) ∷ ks) (twice ls)
+
+    keeps-kinds : (xs ys : List (List ℕ)) → map codeAt xs ≡ map codeAt ys → map (λ l. kindOf (codeAt l)) xs ≡ map (λ l. kindOf (codeAt l)) ys
+    keeps-kinds xs ys e = sym (twice xs) ∙ ap (map kindOf) e ∙ twice ys

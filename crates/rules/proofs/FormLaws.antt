@@ -1,0 +1,292 @@
+-- The tests of numbers and signed heights are what the paper says: blanks, perhaps a minus, digits.
+use mathlib.Core.Path.{_≡_, refl, sym, _∙_, ap, ap₂, subst}
+use mathlib.Core.Logic.{_⊎_, inl, inr, _↔_}
+use mathlib.Core.Bool.{Bool, true, false, cond, false≢true, true≢false}
+use mathlib.Core.List.{List, [], _∷_, _++_, append-nil}
+use Prim.Native.Nat.{ℕ, zero, suc, _+_, _-_, _*_, _^_, _≤_, _<_}
+use native.Mathlib.Omega.{arith}
+use native.Mathlib.Nat.{pow-le-pow-right}
+use lib.ListN.{length, length-append, replicate, length-replicate}
+use lib.IntN.{ℤ, pos, negsuc, negℤ}
+use Rattle.rules.specs.Tests.{all, within, _&_, _≤?_, _=?_}
+use Rattle.rules.specs.Characters.{isBlank, isDigit}
+use Rattle.rules.specs.Digits.{val}
+use Rattle.rules.specs.Items.{Value, missing, num, number, height, numForm, heightForm, minus, signed, valueOf, fits, onNumber, width, shape, good}
+use Rattle.rules.specs.Forms.{IsNumber, IsHeight, NumberField, HeightField}
+use Rattle.rules.proofs.Truth.{both, and, to≤, of≤, no≤, to≡, of≡, of-within, to-within, cases, all-weaken, all-append, not-both, is-no}
+use Rattle.rules.proofs.DigitLaws.{notAbove9, val-lt}
+use Rattle.rules.proofs.Lawful.{digit-not-blank, digit-not-minus, digits-not-blank, blanks, blanks-numForm, digits-numForm, blanks-heightForm, digits-heightForm, digits-no-minus}
+
+-- ---- blanks in front
+all-blank : (bs : List ℕ) → all isBlank bs ≡ true → bs ≡ replicate (length bs) 32
+unfolding all isBlank
+all-blank [] h = refl
+all-blank (b ∷ bs) h = ap₂ _∷_ (to≡ (both h .0)) (all-blank bs (both h .1))
+
+val-blanks : (k : ℕ) (bs : List ℕ) → val 0 (replicate k 32 ++ bs) ≡ val 0 bs
+unfolding val
+val-blanks zero bs = refl
+val-blanks (suc k) bs = val-blanks k bs
+
+blank-32 : isBlank 32 ≡ true
+unfolding isBlank _=?_
+blank-32 = refl
+
+numForm-blanks : (k : ℕ) (bs : List ℕ) → numForm (replicate k 32 ++ bs) ≡ numForm bs
+unfolding numForm
+numForm-blanks zero bs = refl
+numForm-blanks (suc k) bs = rw blank-32 (numForm-blanks k bs)
+
+heightForm-blanks : (k : ℕ) (bs : List ℕ) → heightForm (replicate k 32 ++ bs) ≡ heightForm bs
+unfolding heightForm
+heightForm-blanks zero bs = refl
+heightForm-blanks (suc k) bs = rw blank-32 (heightForm-blanks k bs)
+
+minus-blanks : (k : ℕ) (bs : List ℕ) → minus (replicate k 32 ++ bs) ≡ minus bs
+unfolding minus
+minus-blanks zero bs = refl
+minus-blanks (suc k) bs = rw blank-32 (minus-blanks k bs)
+
+not-blank-after : (k : ℕ) (bs : List ℕ) → all isBlank bs ≡ false → all isBlank (replicate k 32 ++ bs) ≡ false
+unfolding all
+not-blank-after zero bs h = h
+not-blank-after (suc k) bs h = rw (blank-32, not-blank-after k bs h) (unfold _&_ in refl)
+
+-- ---- digits in so many columns
+low : (b : ℕ) → isDigit b ≡ true → notAbove9 b ≡ true
+unfolding isDigit notAbove9
+low b h = of≤ (to-within h .1)
+
+pub digits-lt : (w : ℕ) (ds : List ℕ) → all isDigit ds ≡ true → length ds ≤ w → val 0 ds < 10 ^ w
+digits-lt w ds h k =
+    let v : val 0 ds < 1 * 10 ^ length ds = val-lt 0 ds (all-weaken isDigit notAbove9 low ds h) in
+    omega (arith, v, pow-le-pow-right {n = 10} (omega arith) {i = length ds} {j = w} k)
+
+-- ---- numbers
+-- blanks then digits, where the digits may be none
+pub record Split (bs : List ℕ) : Type 0 where
+  pub blank : ℕ
+  pub digits : List ℕ
+  pub spelled : bs ≡ replicate blank 32 ++ digits
+  pub decimal : all isDigit digits ≡ true
+
+split-number : (bs : List ℕ) → numForm bs ≡ true → Split bs
+unfolding numForm
+split-number [] h = record { blank = 0; digits = []; spelled = refl; decimal = unfold all in refl }
+split-number (b ∷ bs) h =
+    cases (isBlank b)
+    (λ e. let s = split-number bs (rw e at h) in record { blank = suc (s .blank); digits = s .digits; spelled = ap₂ _∷_ (unfold isBlank in to≡ e) (s .spelled); decimal = s .decimal })
+    (λ e. record { blank = 0; digits = b ∷ bs; spelled = refl; decimal = rw e at h })
+
+-- with no digits there are blanks only
+only-blanks : (bs : List ℕ) (s : Split bs) {w : ℕ} → length bs ≡ w → 1 ≤? length (s .digits) ≡ false → bs ≡ replicate w 32
+only-blanks bs s {w} e h =
+    let none : s .digits ≡ [] = empty (s .digits) (no≤ h) in
+    let same : bs ≡ replicate (s .blank) 32 = s .spelled ∙ ap (λ ds. replicate (s .blank) 32 ++ ds) none ∙ append-nil (replicate (s .blank) 32) in
+    same ∙ ap (λ n. replicate n 32) (sym (length-replicate {A = ℕ} (s .blank) 32) ∙ ap length (sym same) ∙ e)
+  where
+    empty : (ds : List ℕ) → length ds < 1 → ds ≡ []
+    empty [] k = refl
+    empty (d ∷ ds) k = absurd (omega arith)
+
+module _ (w lo hi : ℕ) (may : Bool) where
+  value-blank : (bs : List ℕ) → all isBlank bs ≡ true → valueOf (number w lo hi may) bs ≡ missing
+  unfolding valueOf
+  value-blank bs h = rw h
+
+  value-digits : (k : ℕ) (ds : List ℕ) → all isDigit ds ≡ true → 1 ≤ length ds → valueOf (number w lo hi may) (replicate k 32 ++ ds) ≡ num (pos (val 0 ds))
+  unfolding valueOf
+  value-digits k ds h s = rw (not-blank-after k ds (digits-not-blank ds h s), val-blanks k ds)
+
+  length-digits : (k : ℕ) (ds : List ℕ) → length (replicate k 32 ++ ds) ≡ w → length ds ≤ w
+  length-digits k ds e = omega (arith, length-append (replicate k 32) ds)
+
+  -- the range of a value that is there
+  in-range : (n : ℕ) → fits (number w lo hi may) (num (pos n)) ≡ true → (lo ≤ n) × (n ≤ hi)
+  unfolding fits onNumber
+  in-range n h = to-within (both h .1)
+
+  may-miss : fits (number w lo hi may) missing ≡ true → may ≡ true
+  unfolding fits onNumber
+  may-miss h = h
+
+  fits-range : (n : ℕ) → 1 ≤ w → n < 10 ^ w → lo ≤ n → n ≤ hi → fits (number w lo hi may) (num (pos n)) ≡ true
+  unfolding fits onNumber
+  fits-range n p q a b = and (and (of≤ p) (of≤ q)) (of-within a b)
+
+  fits-missing : may ≡ true → fits (number w lo hi may) missing ≡ true
+  unfolding fits onNumber
+  fits-missing h = h
+
+  pub number-is : (bs : List ℕ) → (good (number w lo hi may) bs ≡ true) ↔ NumberField w lo hi may bs (valueOf (number w lo hi may) bs)
+  unfolding good shape width NumberField
+  number-is bs = (forth, back)
+    where
+      forth : length bs =? w & numForm bs & fits (number w lo hi may) (valueOf (number w lo hi may) bs) ≡ true
+          → ((may ≡ true) × (bs ≡ replicate w 32) × (valueOf (number w lo hi may) bs ≡ missing))
+          ⊎ ((n : ℕ) × (length bs ≡ w) × IsNumber n bs × (lo ≤ n) × (n ≤ hi) × (valueOf (number w lo hi may) bs ≡ num (pos n)))
+      forth h =
+          let size : length bs ≡ w = to≡ (both (both h .0) .0) in
+          let s = split-number bs (both (both h .0) .1) in
+          cases (1 ≤? length (s .digits))
+          (λ some.
+          let v : valueOf (number w lo hi may) bs ≡ num (pos (val 0 (s .digits))) = ap (valueOf (number w lo hi may)) (s .spelled) ∙ value-digits (s .blank) (s .digits) (s .decimal) (to≤ some) in
+          let r = in-range (val 0 (s .digits)) (subst (λ x. fits (number w lo hi may) x ≡ true) v (both h .1)) in
+          inr (val 0 (s .digits), size, record { blanks = s .blank; digits = s .digits; spelled = s .spelled; decimal = s .decimal; some = to≤ some; value = refl }, r .0, r .1, v))
+          (λ none.
+          let blank : bs ≡ replicate w 32 = only-blanks bs s size none in
+          let v : valueOf (number w lo hi may) bs ≡ missing = value-blank bs (rw blank (blanks w)) in
+          inl (may-miss (subst (λ x. fits (number w lo hi may) x ≡ true) v (both h .1)), blank, v))
+
+      back : ((may ≡ true) × (bs ≡ replicate w 32) × (valueOf (number w lo hi may) bs ≡ missing))
+          ⊎ ((n : ℕ) × (length bs ≡ w) × IsNumber n bs × (lo ≤ n) × (n ≤ hi) × (valueOf (number w lo hi may) bs ≡ num (pos n)))
+          → length bs =? w & numForm bs & fits (number w lo hi may) (valueOf (number w lo hi may) bs) ≡ true
+      back (inl x) =
+          and (and (of≡ (ap length (x .1) ∙ length-replicate {A = ℕ} w 32)) (rw (x .1) (blanks-numForm _ (blanks w)))) (rw (x .2) (fits-missing (x .0)))
+      back (inr (n, size, i, a, b, v)) =
+          let long : length (i .digits) ≤ w = length-digits (i .blanks) (i .digits) (sym (ap length (i .spelled)) ∙ size) in
+          let small : n < 10 ^ w = rw (i .value) (digits-lt w (i .digits) (i .decimal) long) in
+          and (and (of≡ size) (rw (i .spelled) (numForm-blanks (i .blanks) (i .digits) ∙ digits-numForm (i .digits) (i .decimal))))
+          (rw v (fits-range n (omega (arith, i .some)) small a b))
+
+-- ---- signed heights
+pub record SplitHeight (bs : List ℕ) : Type 0 where
+  pub blank : ℕ
+  pub sign : Bool
+  pub digits : List ℕ
+  pub spelled : bs ≡ replicate blank 32 ++ (cond sign (45 ∷ []) [] ++ digits)
+  pub decimal : all isDigit digits ≡ true
+  pub some : sign ≡ true → 1 ≤ length digits
+
+split-height : (bs : List ℕ) → heightForm bs ≡ true → SplitHeight bs
+unfolding heightForm
+split-height [] h = record { blank = 0; sign = false; digits = []; spelled = refl; decimal = unfold all in refl; some = λ e. absurd (false≢true e) }
+split-height (b ∷ bs) h =
+    cases (isBlank b)
+    (λ e. let s = split-height bs (rw e at h) in record {
+      blank = suc (s .blank);
+      sign = s .sign;
+      digits = s .digits;
+      spelled = ap₂ _∷_ (unfold isBlank in to≡ e) (s .spelled);
+      decimal = s .decimal;
+      some = s .some;
+    })
+    (λ e. cases (b =? 45)
+    (λ m. let k : 1 ≤? length bs & all isDigit bs ≡ true = rw (e, m) at h in
+    record { blank = 0; sign = true; digits = bs; spelled = ap₂ _∷_ (to≡ m) refl; decimal = both k .1; some = λ _. to≤ (both k .0) })
+    (λ m. record { blank = 0; sign = false; digits = b ∷ bs; spelled = refl; decimal = rw (e, m) at h; some = λ x. absurd (false≢true x) }))
+
+-- a sign, then digits, at least one
+module _ (sign : Bool) (ds : List ℕ) (h : all isDigit ds ≡ true) (some : 1 ≤ length ds) where
+  signed-not-blank : all isBlank (cond sign (45 ∷ []) [] ++ ds) ≡ false
+  signed-not-blank = by sign
+    where
+      by : (t : Bool) → all isBlank (cond t (45 ∷ []) [] ++ ds) ≡ false
+      by true = unfold all isBlank _=?_ _&_ in refl
+      by false = digits-not-blank ds h some
+
+  signed-minus : minus (cond sign (45 ∷ []) [] ++ ds) ≡ sign
+  signed-minus = by sign
+    where
+      by : (t : Bool) → minus (cond t (45 ∷ []) [] ++ ds) ≡ t
+      by true = unfold minus isBlank _=?_ in refl
+      by false = digits-no-minus ds h
+
+  signed-value : val 0 (cond sign (45 ∷ []) [] ++ ds) ≡ val 0 ds
+  signed-value = by sign
+    where
+      by : (t : Bool) → val 0 (cond t (45 ∷ []) [] ++ ds) ≡ val 0 ds
+      by true = unfold val in refl
+      by false = refl
+
+  signed-form : heightForm (cond sign (45 ∷ []) [] ++ ds) ≡ true
+  signed-form = by sign
+    where
+      by : (t : Bool) → heightForm (cond t (45 ∷ []) [] ++ ds) ≡ true
+      by true = unfold heightForm isBlank _=?_ in and (of≤ some) h
+      by false = digits-heightForm ds h
+
+module _ (w : ℕ) (may : Bool) where
+  height-value : (k : ℕ) (sign : Bool) (ds : List ℕ) → all isDigit ds ≡ true → 1 ≤ length ds
+      → valueOf (height w may) (replicate k 32 ++ (cond sign (45 ∷ []) [] ++ ds)) ≡ num (signed sign (val 0 ds))
+  unfolding valueOf
+  height-value k sign ds h s =
+      rw (
+        not-blank-after k (cond sign (45 ∷ []) [] ++ ds) (signed-not-blank sign ds h s),
+        minus-blanks k (cond sign (45 ∷ []) [] ++ ds),
+        signed-minus sign ds h s,
+        val-blanks k (cond sign (45 ∷ []) [] ++ ds),
+        signed-value sign ds h s,
+      )
+
+  height-blank : (bs : List ℕ) → all isBlank bs ≡ true → valueOf (height w may) bs ≡ missing
+  unfolding valueOf
+  height-blank bs h = rw h
+
+  height-may-miss : fits (height w may) missing ≡ true → may ≡ true
+  unfolding fits onNumber
+  height-may-miss h = h
+
+  height-missing : may ≡ true → fits (height w may) missing ≡ true
+  unfolding fits onNumber
+  height-missing h = h
+
+  -- the form and the width leave no other range
+  pub up : (n : ℕ) → 1 ≤ w → n < 10 ^ w → fits (height w may) (num (signed false n)) ≡ true
+  unfolding fits signed onNumber
+  up n p h = and (of≤ p) (of≤ h)
+
+  pub down : (n : ℕ) → 1 ≤ w → n < 10 ^ (w - 1) → fits (height w may) (num (signed true n)) ≡ true
+  unfolding fits signed onNumber
+  down zero p h = and (of≤ p) (of≤ (omega (arith, pow-le-pow-right {n = 10} (omega arith) {i = w - 1} {j = w} (omega arith))))
+  down (suc n) p h = and (of≤ p) (of≤ h)
+
+  height-fits : (sign : Bool) (ds : List ℕ) → all isDigit ds ≡ true → 1 ≤ length ds → length (cond sign (45 ∷ []) [] ++ ds) ≤ w → fits (height w may) (num (signed sign (val 0 ds))) ≡ true
+  height-fits true ds h s k =
+      let short : length ds ≤ w - 1 = omega arith in
+      down (val 0 ds) (omega arith) (digits-lt (w - 1) ds h short)
+  height-fits false ds h s k = up (val 0 ds) (omega arith) (digits-lt w ds h k)
+
+  height-length : (k : ℕ) (xs : List ℕ) → length (replicate k 32 ++ xs) ≡ w → length xs ≤ w
+  height-length k xs e = omega (arith, length-append (replicate k 32) xs)
+
+  height-only-blanks : (bs : List ℕ) (s : SplitHeight bs) → length bs ≡ w → 1 ≤? length (s .digits) ≡ false → bs ≡ replicate w 32
+  height-only-blanks bs s e h =
+      only-blanks bs record { blank = s .blank; digits = s .digits; spelled = s .spelled ∙ ap (λ t. replicate (s .blank) 32 ++ (cond t (45 ∷ []) [] ++ s .digits)) unsigned; decimal = s .decimal } e h
+    where
+      unsigned : s .sign ≡ false
+      unsigned = is-no (s .sign) (λ x. omega (arith, s .some x, no≤ h))
+
+  pub height-is : (bs : List ℕ) → (good (height w may) bs ≡ true) ↔ HeightField w may bs (valueOf (height w may) bs)
+  unfolding good shape width HeightField
+  height-is bs = (forth, back)
+    where
+      forth : length bs =? w & heightForm bs & fits (height w may) (valueOf (height w may) bs) ≡ true
+          → ((may ≡ true) × (bs ≡ replicate w 32) × (valueOf (height w may) bs ≡ missing)) ⊎ ((z : ℤ) × (length bs ≡ w) × IsHeight z bs × (valueOf (height w may) bs ≡ num z))
+      forth h =
+          let size : length bs ≡ w = to≡ (both (both h .0) .0) in
+          let s = split-height bs (both (both h .0) .1) in
+          cases (1 ≤? length (s .digits))
+          (λ some.
+          let v : valueOf (height w may) bs ≡ num (signed (s .sign) (val 0 (s .digits))) = ap (valueOf (height w may)) (s .spelled) ∙ height-value (s .blank) (s .sign) (s .digits) (s .decimal) (to≤ some) in
+          inr (signed (s .sign) (val 0 (s .digits)), size, record { blanks = s .blank; minus = s .sign; digits = s .digits; spelled = s .spelled; decimal = s .decimal; some = to≤ some; value = refl }, v))
+          (λ none.
+          let blank : bs ≡ replicate w 32 = height-only-blanks bs s size none in
+          let v : valueOf (height w may) bs ≡ missing = height-blank bs (rw blank (blanks w)) in
+          inl (height-may-miss (subst (λ x. fits (height w may) x ≡ true) v (both h .1)), blank, v))
+
+      back : ((may ≡ true) × (bs ≡ replicate w 32) × (valueOf (height w may) bs ≡ missing)) ⊎ ((z : ℤ) × (length bs ≡ w) × IsHeight z bs × (valueOf (height w may) bs ≡ num z))
+          → length bs =? w & heightForm bs & fits (height w may) (valueOf (height w may) bs) ≡ true
+      back (inl x) =
+          and (and (of≡ (ap length (x .1) ∙ length-replicate {A = ℕ} w 32)) (rw (x .1) (blanks-heightForm _ (blanks w)))) (rw (x .2) (height-missing (x .0)))
+      back (inr (z, size, i, v)) =
+          let tail = cond (i .minus) (45 ∷ []) [] ++ i .digits in
+          let long : length tail ≤ w = height-length (i .blanks) tail (sym (ap length (i .spelled)) ∙ size) in
+          and (and (of≡ size) (rw (i .spelled) (heightForm-blanks (i .blanks) tail ∙ signed-form (i .minus) (i .digits) (i .decimal) (i .some))))
+          (rw v (subst (λ x. fits (height w may) (num x) ≡ true) (sym (i .value)) (height-fits (i .minus) (i .digits) (i .decimal) (i .some) long)))
+
+-- ---- exact signs: every value of a signed height that fits in w columns is written and read back; the ends of seven columns
+pub height-ends : (fits (height 7 true) (num (pos 9_999_999)) ≡ true) × (fits (height 7 true) (num (pos 10_000_000)) ≡ false)
+    × (fits (height 7 true) (num (negsuc 999_998)) ≡ true) × (fits (height 7 true) (num (negsuc 999_999)) ≡ false)
+unfolding fits onNumber _≤?_ _&_
+height-ends = (refl, refl, refl, refl)

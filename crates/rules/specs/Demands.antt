@@ -1,0 +1,32 @@
+-- The three demands as statements about Chapter 4 files.
+use mathlib.Core.Path.{_≡_}
+use mathlib.Core.Logic.{_↔_}
+use mathlib.Core.Bool.{Bool, true}
+use mathlib.Core.List.{List, [], map}
+use Prim.Native.Nat.{ℕ, _+_, _*_, _<_}
+use lib.ListN.{length, take, getD}
+use lib.IntN.{pos}
+use Rattle.rules.specs.Items.{num, valueOf}
+use Rattle.rules.specs.Records.{Meaning, sequence, codeAt}
+use Rattle.rules.specs.Files.{Result, lines, meanings, accepted, rewritten}
+use Rattle.rules.specs.Kinds.{kindOf}
+use Rattle.rules.specs.Faults.{FirstOf, HasFault, CallFaults}
+use Rattle.rules.specs.Calls.{outcome}
+use Rattle.rules.specs.Chapter4.{chapter4}
+
+-- demand 2: the answer is the first fault in the paper's order, no other answer is, and a file is accepted exactly when it has none
+pub record Demand2 (enough : Bool) (f : List ℕ) : Type 0 where
+  pub first : FirstOf (CallFaults chapter4 enough f) (outcome enough f)
+  pub unique : (v : Result) → FirstOf (CallFaults chapter4 enough f) v → v ≡ outcome enough f
+  pub exactly : (accepted chapter4 f ≡ true) ↔ ((n r c : ℕ) → HasFault chapter4 f n r c → ⊥)
+
+-- demand 3, of two accepted files a and b
+pub record Demand3 (a b : List ℕ) : Type 0 where
+  pub same : (rewritten chapter4 a ≡ rewritten chapter4 b) ↔ (meanings chapter4 a ≡ meanings chapter4 b)
+  pub accepted-again : accepted chapter4 (rewritten chapter4 a) ≡ true
+  pub means : meanings chapter4 (rewritten chapter4 a) ≡ meanings chapter4 a
+  pub as-many : length (lines (rewritten chapter4 a)) ≡ length (lines a)
+  pub as-long : length (rewritten chapter4 a) ≡ length a
+  pub kinds : map (λ l. kindOf (codeAt l)) (lines (rewritten chapter4 a)) ≡ map (λ l. kindOf (codeAt l)) (lines a)
+  pub settled : rewritten chapter4 (rewritten chapter4 a) ≡ rewritten chapter4 a
+  pub numbered : (i : ℕ) → i < length (lines a) → valueOf sequence (take 6 (getD (lines (rewritten chapter4 a)) i [])) ≡ num (pos (10 * (1 + i)))
