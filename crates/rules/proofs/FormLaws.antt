@@ -284,9 +284,3 @@ module _ (w : ℕ) (may : Bool) where
           let long : length tail ≤ w = height-length (i .blanks) tail (sym (ap length (i .spelled)) ∙ size) in
           and (and (of≡ size) (rw (i .spelled) (heightForm-blanks (i .blanks) tail ∙ signed-form (i .minus) (i .digits) (i .decimal) (i .some))))
           (rw v (subst (λ x. fits (height w may) (num x) ≡ true) (sym (i .value)) (height-fits (i .minus) (i .digits) (i .decimal) (i .some) long)))
-
--- ---- exact signs: every value of a signed height that fits in w columns is written and read back; the ends of seven columns
-pub height-ends : (fits (height 7 true) (num (pos 9_999_999)) ≡ true) × (fits (height 7 true) (num (pos 10_000_000)) ≡ false)
-    × (fits (height 7 true) (num (negsuc 999_998)) ≡ true) × (fits (height 7 true) (num (negsuc 999_999)) ≡ false)
-unfolding fits onNumber _≤?_ _&_
-height-ends = (refl, refl, refl, refl)

@@ -11,3 +11,5 @@ pub mod Demands
 pub mod ReferenceLaws
 pub mod TableLaws
 pub mod FormLaws
+pub mod Samples
+pub mod Published
