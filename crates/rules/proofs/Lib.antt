@@ -13,3 +13,5 @@ pub mod TableLaws
 pub mod FormLaws
 pub mod Samples
 pub mod Published
+pub mod Conforming
+pub mod Keeping

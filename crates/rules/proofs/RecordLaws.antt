@@ -48,7 +48,7 @@ arrange-alone a b d e f = simp &-sort
 
 module _ {S : Type 0} (E : Edition S) where
   -- ---- the judges split
-  agreeing-line : (e : Expect) (l : List ℕ) → agreeing e (entries E l) ≡ agreeing e (told E (meaning E l))
+  pub agreeing-line : (e : Expect) (l : List ℕ) → agreeing e (entries E l) ≡ agreeing e (told E (meaning E l))
   unfolding entries told meaning
   agreeing-line e l = agreeing-told l e (E .layout (codeAt l))
 

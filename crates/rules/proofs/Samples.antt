@@ -281,7 +281,6 @@ pub one-line-sheet : (table : List ℕ) → bigTable table ≡ true
 unfolding sheet listed fileLine tabbed numeral stripped checkAnswer outcome answer judged
 one-line-sheet table h = rw h
 
-
 -- ---- 2: a hundred thousand records, of which all but the last are good. After a *25* any number of comments may come, and none changes what went before
 unfoldable pub opening : List (List ℕ)
 unfolding bytesOf

@@ -15,3 +15,4 @@ pub mod Calls
 pub mod Sheet
 pub mod Demands
 pub mod Forms
+pub mod Conforms
