@@ -3,17 +3,19 @@ use mathlib.Core.Path.{_≡_, refl, sym, _∙_, ap}
 use mathlib.Core.Logic.{_↔_}
 use mathlib.Core.Bool.{Bool, true, false}
 use mathlib.Core.List.{List, [], _∷_, map}
-use Prim.Native.Nat.{ℕ, _+_, _*_, _<_}
+use Prim.Native.Nat.{ℕ, _+_, _*_, _≤_, _<_}
 use native.Mathlib.Omega.{arith}
-use lib.ListN.{length}
-use Rattle.rules.specs.Records.{codeAt}
+use lib.ListN.{length, length-map}
+use Rattle.rules.specs.Records.{codeAt, meaning}
 use Rattle.rules.specs.Files.{Result, lines, meanings, verdict, accepted, rewritten}
 use Rattle.rules.specs.Kinds.{kindOf}
 use Rattle.rules.specs.Faults.{FirstOf, HasFault, CallFaults}
 use Rattle.rules.specs.Calls.{outcome}
 use Rattle.rules.specs.Chapter4.{chapter4}
-use Rattle.rules.specs.Demands.{Demand2, Demand3}
-use Rattle.rules.proofs.FileLaws.{keeps-accepted, keeps-meaning, keeps-codes, keeps-records, keeps-length, settled, numbered-anew, same-style-same-meaning}
+use Rattle.rules.specs.Demands.{Demand2, Demand3, Tells}
+use Rattle.rules.proofs.FileLaws.{keeps-accepted, keeps-meaning, keeps-codes, keeps-records, keeps-length, settled, numbered-anew, same-style-same-meaning, accepted-meant}
+use Rattle.rules.proofs.ReferenceLaws.{word-at, word-80, word-70, word-72}
+use Rattle.rules.proofs.TableLaws.{filled-is-words, count-at, counts-sum}
 use Rattle.rules.proofs.FileFaults.{one-first, none-iff, first-verdict, first-outcome}
 use Rattle.rules.proofs.Chapter4Laws.{sound, sound-refs}
 
@@ -51,3 +53,17 @@ demand-3 a b h k = record {
 
     keeps-kinds : (xs ys : List (List ℕ)) → map codeAt xs ≡ map codeAt ys → map (λ l. kindOf (codeAt l)) xs ≡ map (λ l. kindOf (codeAt l)) ys
     keeps-kinds xs ys e = sym (twice xs) ∙ ap (map kindOf) e ∙ twice ys
+
+-- the counts and the words of an accepted file
+pub counts-and-words : (f : List ℕ) → accepted chapter4 f ≡ true → Tells f (meanings chapter4 f)
+counts-and-words f h =
+    let ms = meanings chapter4 f in
+    let meant = accepted-meant chapter4 f h in
+    record {
+      counted = count-at ms;
+      none-passed-over = counts-sum ms meant ∙ (unfold meanings in length-map (lines f) (meaning chapter4));
+      station = λ n k. word-at ms n (omega arith) ∙ word-80 ms n k;
+      instrument = λ n k. word-at ms (10_000 + n) (omega arith) ∙ word-70 ms n k;
+      antenna = λ n k. word-at ms (11_000 + n) (omega arith) ∙ word-72 ms n k;
+      as-filled = filled-is-words ms meant;
+    }

@@ -1,17 +1,18 @@
-pub mod Truth
-pub mod DigitLaws
-pub mod Lawful
-pub mod FieldLaws
-pub mod RecordLaws
-pub mod FileLaws
-pub mod FaultLaws
-pub mod FileFaults
-pub mod Chapter4Laws
-pub mod Demands
-pub mod ReferenceLaws
-pub mod TableLaws
-pub mod FormLaws
-pub mod Samples
-pub mod Published
-pub mod Conforming
-pub mod Keeping
+-- What is proved of the rules, from the bottom up.
+pub mod Truth  -- tests that hold
+pub mod DigitLaws  -- digits
+pub mod Lawful  -- every kind of field: what is written reads back
+pub mod FormLaws  -- numbers and heights are what the paper says
+pub mod FieldLaws  -- fields in a row
+pub mod RecordLaws  -- one record
+pub mod FileLaws  -- a file, and demand 3 for any edition
+pub mod FaultLaws  -- the first fault of a record
+pub mod FileFaults  -- the first fault of a file, and demand 2 for any edition
+pub mod ReferenceLaws  -- references and words
+pub mod TableLaws  -- the table as it is filled, and the counts
+pub mod Chapter4Laws  -- Chapter 4 is sound, and its order is the paper's table
+pub mod Keeping  -- what is kept of the records before
+pub mod Conforming  -- accepted exactly when it conforms
+pub mod Demands  -- the demands
+pub mod Published  -- the published columns
+pub mod Samples  -- files by computation

@@ -14,7 +14,7 @@ use Rattle.rules.specs.Fields.{Field, Entry, given, entriesOf, valueAt, 
 use Rattle.rules.specs.Records.{Meaning, knownCode, told, meant}
 use Rattle.rules.specs.Kinds.{kindOf, *25*, *70*, *72*, *80*}
 use Rattle.rules.specs.Layouts.{at, tied, station, instrument, antenna, occupation, receiver, aerial, point, kept, layouts, layout}
-use Rattle.rules.specs.References.{isA, numberAt, defines, definerFrom, definer, tabulate, wordAt, words, slotOf, mark, filled, tally, counts}
+use Rattle.rules.specs.References.{isA, numberAt, defines, definerFrom, definer, tabulate, wordAt, words, slotOf, mark, filled, tally, counts, sum}
 use Rattle.rules.specs.Chapter4.{chapter4}
 use Rattle.rules.proofs.Truth.{both, and, to≤, of≤, no≤, of>, to≡, of≡, no≡, of≢, is-no, cases, either, not-both, true-and, to-within, below-or-equal}
 use Rattle.rules.proofs.ReferenceLaws.{length-tabulate, tabulate-at, length-words, word-at, word-80, word-70, word-72}
@@ -244,10 +244,6 @@ filled-is-words ms h =
         ∙ rw (getD-replicate {A = ℕ} 12_000 j 0 0 k) (unfold keeping _=?_ in slotter-word ms j h k ∙ sym (word-at ms j k))
 
 -- ---- the counts
-unfoldable pub sum : List ℕ → ℕ
-sum [] = 0
-sum (n ∷ ns) = n + sum ns
-
 pub count-at : (ms : List Meaning) (k : ℕ) → k < 14 → getD (counts ms) k 0 ≡ tally k ms
 unfolding counts
 count-at ms k h = tabulate-at (λ j. tally j ms) 14 0 k h ∙ ap (λ j. tally j ms) (omega arith)

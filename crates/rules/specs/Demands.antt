@@ -3,13 +3,14 @@ use mathlib.Core.Path.{_≡_}
 use mathlib.Core.Logic.{_↔_}
 use mathlib.Core.Bool.{Bool, true}
 use mathlib.Core.List.{List, [], map}
-use Prim.Native.Nat.{ℕ, _+_, _*_, _<_}
-use lib.ListN.{length, take, getD}
+use Prim.Native.Nat.{ℕ, _+_, _*_, _≤_, _<_}
+use lib.ListN.{length, take, getD, replicate}
 use lib.IntN.{pos}
 use Rattle.rules.specs.Items.{num, valueOf}
 use Rattle.rules.specs.Records.{Meaning, sequence, codeAt}
 use Rattle.rules.specs.Files.{Result, lines, meanings, accepted, rewritten}
-use Rattle.rules.specs.Kinds.{kindOf}
+use Rattle.rules.specs.Kinds.{kindOf, *70*, *72*, *80*}
+use Rattle.rules.specs.References.{definer, words, filled, tally, counts, sum}
 use Rattle.rules.specs.Faults.{FirstOf, HasFault, CallFaults}
 use Rattle.rules.specs.Calls.{outcome}
 use Rattle.rules.specs.Chapter4.{chapter4}
@@ -30,3 +31,12 @@ pub record Demand3 (a b : List ℕ) : Type 0 where
   pub kinds : map (λ l. kindOf (codeAt l)) (lines (rewritten chapter4 a)) ≡ map (λ l. kindOf (codeAt l)) (lines a)
   pub settled : rewritten chapter4 (rewritten chapter4 a) ≡ rewritten chapter4 a
   pub numbered : (i : ℕ) → i < length (lines a) → valueOf sequence (take 6 (getD (lines (rewritten chapter4 a)) i [])) ≡ num (pos (10 * (1 + i)))
+
+-- demand 2, the rest of the answer: the counts are those of the file's records, and the words are the records that define
+pub record Tells (f : List ℕ) (ms : List Meaning) : Type 0 where
+  pub counted : (k : ℕ) → k < 14 → getD (counts ms) k 0 ≡ tally k ms
+  pub none-passed-over : sum (counts ms) ≡ length (lines f)
+  pub station : (n : ℕ) → n ≤ 9_999 → getD (words ms) n 0 ≡ definer *80* n ms
+  pub instrument : (n : ℕ) → n ≤ 999 → getD (words ms) (10_000 + n) 0 ≡ definer *70* n ms
+  pub antenna : (n : ℕ) → n ≤ 999 → getD (words ms) (11_000 + n) 0 ≡ definer *72* n ms
+  pub as-filled : filled 1 ms (replicate 12_000 0) ≡ words ms

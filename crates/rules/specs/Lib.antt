@@ -1,18 +1,19 @@
-pub mod Tests
-pub mod Characters
-pub mod Digits
-pub mod Items
-pub mod Fields
-pub mod Kinds
-pub mod Layouts
-pub mod Records
-pub mod Files
-pub mod Order
-pub mod References
-pub mod Chapter4
-pub mod Faults
-pub mod Calls
-pub mod Sheet
-pub mod Demands
-pub mod Forms
-pub mod Conforms
+-- 01 as definitions, to be read in this order.
+pub mod Tests  -- tests
+pub mod Characters  -- sets of characters
+pub mod Digits  -- digits and numbers
+pub mod Items  -- how a field is read, and written
+pub mod Forms  -- the same said without tests
+pub mod Fields  -- fields in a row, agreement, faults 9 and 10
+pub mod Kinds  -- the fourteen kinds and their codes
+pub mod Layouts  -- the field tables
+pub mod Records  -- one record: judged, meant, written
+pub mod Files  -- the lines of a file, the verdict, the meaning, house style
+pub mod Order  -- what may follow what
+pub mod References  -- cross references, table words, counts
+pub mod Chapter4  -- the edition put together
+pub mod Faults  -- the fault numbers and their order
+pub mod Calls  -- what each call answers and leaves
+pub mod Sheet  -- the deposit sheet
+pub mod Conforms  -- what an accepted file is
+pub mod Demands  -- the demands

@@ -76,6 +76,10 @@ tally k (m ∷ ms) = cond (isA k m) (1 + tally k ms) (tally k ms)
 unfoldable pub counts : List Meaning → List ℕ
 counts ms = tabulate (λ k. tally k ms) 14 0
 
+unfoldable pub sum : List ℕ → ℕ
+sum [] = 0
+sum (n ∷ ns) = n + sum ns
+
 -- ---- the references as the paper says them, record i + 1 of a file being ms at i
 unfoldable pub blankRecord : Meaning
 blankRecord = record { code = []; values = [] }
