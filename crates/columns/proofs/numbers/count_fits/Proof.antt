@@ -1,0 +1,12 @@
+use mathlib.Core.Path.{_≡_, refl, sym, ap, _∙_}
+use borrow.Author.Needs.{needs}
+use Rattle.columns.proofs.ValueLaws.{count-missing, count-is}
+use Rattle.columns.proofs.numbers.count_fits.Statement.{statement}
+use Rattle.columns.proofs.numbers.count_fits.Tie as tie
+
+pub count-fits-spec : {M : Type 1} → statement M
+count-fits-spec =
+    tie.close
+    (tie.spec (λ c. search needs) (λ c. search needs) (λ c. search needs) (λ c κs. search needs)
+    (λ c. let a = c .before .before .args in count-missing (a .width) (a .lo) (a .hi) (a .may) (c .enum-told .given .1))
+    (λ c. let a = c .before .before .before .before .args in count-is (a .width) (a .lo) (a .hi) (a .may) (c .before .before .c .given .1) (c .has-room .ensures)))

@@ -1,0 +1,30 @@
+use mathlib.Core.Path.{_≡_, refl, sym, ap, _∙_}
+use mathlib.Core.Bool.{_&&_}
+use Prim.Native.Nat.{_≤_, _-_}
+use lib.ListN.{length, drop, getD}
+use borrow.Author.Needs.{needs}
+use native.Mathlib.Omega.{arith}
+use Rattle.rules.specs.Tests.{all, _=?_}
+use Rattle.columns.proofs.Loops.{all-turn, all-end}
+use Rattle.columns.proofs.sets.all_are.Statement.{statement}
+use Rattle.columns.proofs.sets.all_are.Tie as tie
+
+abbrev Inv-loop : tie.InvT-loop
+Inv-loop part c n good₀ i₀ good i = (n ≡ length part) × (i ≤ n) × ((good && all (λ b. b =? c) (drop i part)) ≡ all (λ b. b =? c) part)
+
+abbrev μ-loop : tie.MeasureT-loop
+μ-loop part c n good₀ i₀ good i = n - i
+
+loop-again : tie.Need-loop-again Inv-loop μ-loop
+unfolding _=?_
+loop-again c =
+    let s = c .before .before in
+    (refl, omega arith, all-turn (λ b. b =? s .before .args .c) (s .before .args .part .now) (s .loop .i) (s .loop .good) _ refl (c .before .loop-test .taken) ∙ s .loop .inv .2)
+
+returns : tie.Need-returns Inv-loop μ-loop
+returns c =
+    let s = c .before in
+    sym (all-end (λ b. b =? s .before .args .c) (s .before .args .part .now) (s .loop .i) (s .loop .good) (c .loop-test .left)) ∙ s .loop .inv .2
+
+pub all-are-spec : {M : Type 1} → statement M
+all-are-spec = tie.close (tie.spec Inv-loop μ-loop (λ c. search needs) (λ c. search needs) (λ c. search needs) (λ c. search needs) loop-again returns)
