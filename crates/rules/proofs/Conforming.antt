@@ -37,7 +37,7 @@ bytes-parts (suc n) c (b ∷ bs) h =
     let rest = bytes-parts n (c + 1) bs (t .1) in
     (and (sym (isOk-check (isPrintable b) 4 c) ∙ t .0) (rest .0), rest .1)
 
-bytes-of : (n c : ℕ) (l : List ℕ) → n < length l → all isPrintable (take n l) ≡ true → getD l n 0 ≡ 10 → isOk (bytes n c l) ≡ true
+pub bytes-of : (n c : ℕ) (l : List ℕ) → n < length l → all isPrintable (take n l) ≡ true → getD l n 0 ≡ 10 → isOk (bytes n c l) ≡ true
 unfolding bytes all
 bytes-of zero c [] k p q = absurd (omega arith)
 bytes-of zero c (b ∷ bs) k p q = isOk-check (b =? 10) 5 c ∙ of≡ q

@@ -1,0 +1,150 @@
+-- One field of a line: one law for each way through the functions.
+use mathlib.Core.Path.{_≡_, refl, sym, _∙_, ap, subst}
+use mathlib.Core.Bool.{Bool, true, false, cond, not, _&&_, _||_}
+use mathlib.Core.List.{List, [], _∷_}
+use Prim.Native.Nat.{ℕ, zero, suc, _+_, _-_, _≤_, _<_}
+use native.Mathlib.Omega.{arith}
+use lib.Dec.{leb, eqb}
+use lib.ListN.{length, take, drop, length-drop}
+use lib.Seq.{length-take-le}
+use Rattle.rules.specs.Tests.{all, _&_, _≤?_, _=?_}
+use Rattle.rules.specs.Characters.{isBlank}
+use Rattle.rules.specs.Items as rules
+use Rattle.rules.specs.Items.{latitude, longitude, blank, constant, number, height, angle, month, media, word, columns, angleDigits, good, spot}
+use Rattle.rules.specs.Fields.{Expect, Verdict, ok, fault, check, _⨾_, sameTruth, meets}
+use Rattle.rules.proofs.Truth.{true-and}
+use Rattle.kinds.specs.declared.tables.Item.{Item}
+use Rattle.kinds.specs.declared.tables.Item.the-variants as I
+use Rattle.kinds.specs.declared.tables.Bond.{Bond}
+use Rattle.kinds.specs.declared.tables.Bond.the-variants as B
+use Rattle.kinds.specs.declared.Expect as code
+use Rattle.kinds.specs.declared.Expect.the-variants as X
+use Rattle.kinds.specs.declared.Judged.{Judged}
+use Rattle.kinds.specs.Values.{judgedOf, expectOf}
+use Rattle.kinds.specs.Tables.{itemOf}
+use Rattle.judging.specs.Judging.{part, numberIn, agreesIn, judgeRow, judgeRowAt, sized}
+
+-- ---- by what stands in the field
+module _ (j : Item) (bs : List ℕ) {i : Item} {r : Bool} where
+  pub stands : i ≡ j → r ≡ good (itemOf j (length bs)) bs → r ≡ good (itemOf i (length bs)) bs
+  stands e z = z ∙ ap (λ k. good (itemOf k (length bs)) bs) (sym e)
+
+  pub stands-narrow : sized (itemOf i (length bs)) ≡ true → i ≡ j → r ≡ length bs ≤? 16 & good (itemOf j (length bs)) bs → sized (itemOf j (length bs)) ≡ length bs ≤? 16 → r ≡ good (itemOf i (length bs)) bs
+  stands-narrow s e z n =
+      let few : length bs ≤? 16 ≡ true = sym n ∙ ap (λ k. sized (itemOf k (length bs))) (sym e) ∙ s in
+      stands e (z ∙ ap (λ t. t & good (itemOf j (length bs)) bs) few ∙ true-and (good (itemOf j (length bs)) bs))
+
+-- ---- what is expected
+module _ (n : ℕ) where
+  pub met-any : {e : code.Expect} → e ≡ X.Anything → true ≡ meets (expectOf e) n
+  unfolding meets expectOf
+  met-any e = rw e
+
+  pub met-same : {e : code.Expect} (k : ℕ) → e ≡ X.Same k → (j : ℕ) → j ≡ k → eqb n j ≡ meets (expectOf e) n
+  unfolding meets expectOf _=?_
+  met-same k e j z = rw (e, z)
+
+  pub met-above : {e : code.Expect} (k : ℕ) → e ≡ X.Above k → (j : ℕ) → j ≡ k → leb (j + 1) n ≡ meets (expectOf e) n
+  unfolding meets expectOf _≤?_
+  met-above k e j z = rw (e, z)
+
+pub truth-is : (a b : Bool) → ((a && b) || (not a && not b)) ≡ sameTruth a b
+unfolding sameTruth
+truth-is true true = refl
+truth-is true false = refl
+truth-is false true = refl
+truth-is false false = refl
+
+-- ---- agreement, by the bond
+module _ (e : Expect) (l bs : List ℕ) {b : Bond} where
+  pub agrees-free : b ≡ B.Free → true ≡ agreesIn e l b bs
+  unfolding agreesIn
+  agrees-free z = rw z
+
+  pub agrees-expected : b ≡ B.Expected → {r : Bool} (v : ℕ) → v ≡ numberIn bs → r ≡ meets e v → r ≡ agreesIn e l b bs
+  unfolding agreesIn
+  agrees-expected z v p q = rw z (q ∙ ap (meets e) p)
+
+  pub agrees-began : b ≡ B.NotBegan → (u : ℕ) → u ≡ numberIn (part 11 6 l) → (v : ℕ) → v ≡ numberIn bs → leb u v ≡ agreesIn e l b bs
+  unfolding agreesIn _≤?_
+  agrees-began z u p v q = rw (z, p, q)
+
+  pub agrees-orthometric : b ≡ B.WithOrthometric → (u : Bool) → u ≡ all isBlank (part 17 7 l) → (v : Bool) → v ≡ all isBlank bs → {r : Bool} → r ≡ sameTruth u v → r ≡ agreesIn e l b bs
+  unfolding agreesIn
+  agrees-orthometric z u p v q o = rw z (o ∙ rw (p, q))
+
+  pub agrees-geoid : b ≡ B.WithGeoid → (u : Bool) → u ≡ all isBlank (part 36 7 l) → (v : Bool) → v ≡ all isBlank bs → {r : Bool} → r ≡ sameTruth u v → r ≡ agreesIn e l b bs
+  unfolding agreesIn
+  agrees-geoid z u p v q o = rw z (o ∙ rw (p, q))
+
+  pub agrees-ellipsoid : b ≡ B.WithEllipsoid → (u : Bool) → u ≡ all isBlank (part 46 7 l) → (v : Bool) → v ≡ all isBlank bs → {r : Bool} → r ≡ sameTruth u v → r ≡ agreesIn e l b bs
+  unfolding agreesIn
+  agrees-ellipsoid z u p v q o = rw z (o ∙ rw (p, q))
+
+at-most : (b : Bool) (n : ℕ) → n ≤ 12 → cond b n 0 ≤ 12
+at-most true n h = h
+at-most false n h = omega arith
+
+-- the fault is named within the first thirteen columns of a field
+pub spot-12 : (i : rules.Item) (bs : List ℕ) → spot i bs ≤ 12
+unfolding spot columns
+spot-12 (blank w) bs = omega arith
+spot-12 (constant c) bs = omega arith
+spot-12 (number w lo hi may) bs = omega arith
+spot-12 (height w may) bs = omega arith
+spot-12 (angle latitude) bs = at-most (angleDigits latitude (take 11 bs)) 11 (omega arith)
+spot-12 (angle longitude) bs = at-most (angleDigits longitude (take 12 bs)) 12 (omega arith)
+spot-12 month bs = omega arith
+spot-12 media bs = omega arith
+spot-12 (word w t) bs = omega arith
+
+-- ---- one row of a line that is long enough
+module _ (l : List ℕ) (c w : ℕ) (long : 80 ≤ length l) (p : 1 ≤ c) (q : c + w ≤ 81) where
+  pub part-length : length (part c w l) ≡ w
+  part-length = length-take-le w (drop (c - 1) l) (rw length-drop (omega arith))
+
+  -- the part as the code cuts it
+  abbrev pub cut : List ℕ
+  cut = take (c - 1 + w - (c - 1)) (drop (c - 1) l)
+
+  pub cut-is : cut ≡ part c w l
+  cut-is = ap (λ n. take n (drop (c - 1) l)) width
+    where
+      width : c - 1 + w - (c - 1) ≡ w
+      width = omega arith
+
+  cut-length : length cut ≡ w
+  cut-length = ap length cut-is ∙ part-length
+
+  module _ (e : Expect) (i : Item) (b : Bond) where
+    formed-is : (g : Bool) → g ≡ good (itemOf i (length cut)) cut → g ≡ good (itemOf i w) (part c w l)
+    formed-is g h = h ∙ rw (cut-length, cut-is)
+
+    agreed-is : (a : Bool) → a ≡ agreesIn e l b cut → a ≡ agreesIn e l b (part c w l)
+    agreed-is a h = h ∙ ap (agreesIn e l b) cut-is
+
+    spot-is : (o : ℕ) → o ≡ spot (itemOf i (length cut)) cut → o ≡ spot (itemOf i w) (part c w l)
+    spot-is o h = h ∙ rw (cut-length, cut-is)
+
+    pub row-good : (g : Bool) → g ≡ good (itemOf i (length cut)) cut → g ≡ true → (a : Bool) → a ≡ agreesIn e l b cut → a ≡ true → Judged.Good ≡ judgedOf (judgeRow e l i b c w)
+    unfolding judgeRow check _⨾_ judgedOf
+    row-good g h t a k u = rw (sym (formed-is g h) ∙ t, sym (agreed-is a k) ∙ u)
+
+    pub row-odd : (g : Bool) → g ≡ good (itemOf i (length cut)) cut → g ≡ true → (a : Bool) → a ≡ agreesIn e l b cut → a ≡ false → Judged.Bad 10 c ≡ judgedOf (judgeRow e l i b c w)
+    unfolding judgeRow check _⨾_ judgedOf
+    row-odd g h t a k u = rw (sym (formed-is g h) ∙ t, sym (agreed-is a k) ∙ u)
+
+    pub row-bad : (g : Bool) → g ≡ good (itemOf i (length cut)) cut → g ≡ false → (o : ℕ) → o ≡ spot (itemOf i (length cut)) cut → Judged.Bad 9 (c + o) ≡ judgedOf (judgeRow e l i b c w)
+    unfolding judgeRow check _⨾_ judgedOf
+    row-bad g h t o k = rw (sym (formed-is g h) ∙ t, spot-is o k)
+
+    pub cut-sized : sized (itemOf i w) ≡ true → sized (itemOf i (length cut)) ≡ true
+    cut-sized h = ap (λ n. sized (itemOf i n)) cut-length ∙ h
+
+    -- where it is named there is room for the column
+    pub spot-small : (o : ℕ) → o ≡ spot (itemOf i (length cut)) cut → o ≤ 12
+    spot-small o k = rw k (spot-12 (itemOf i (length cut)) cut)
+
+pub sized-number : (w lo hi : ℕ) (may : Bool) → sized (number w lo hi may) ≡ w ≤? 16
+unfolding sized
+sized-number w lo hi may = refl

@@ -1,0 +1,217 @@
+-- Judging row by row is the judge of `rules`, for every kind; and the facts of the tables that the loop needs.
+use mathlib.Core.Path.{_≡_, refl, sym, _∙_, ap, ap₂, subst}
+use mathlib.Core.Bool.{Bool, true, false, cond}
+use mathlib.Core.List.{List, [], _∷_, _++_, map}
+use Prim.Native.Nat.{ℕ, zero, suc, _+_, _-_, _*_, _≤_, _<_}
+use native.Mathlib.Omega.{arith}
+use lib.Dec.{lit≤}
+use native.Mathlib.Numerals.{add-one}
+use lib.Seq.{slice, slice-cons, slice-empty}
+use lib.ListN.{length, take, drop, getD}
+use Rattle.rules.specs.Tests.{all, _&_, _≤?_, _=?_}
+use Rattle.rules.specs.Characters.{isBlank, letter, digit, space, only, _or_}
+use Rattle.rules.specs.Digits.{val}
+use Rattle.rules.specs.Items.{Test, each, number, height, month, word, columns, width, valueOf, good, spot}
+use Rattle.rules.specs.Fields.{Expect, Verdict, ok, fault, check, _⨾_, Entry, columnsOf, read, valueAt, numOf, isMissing, agreesWith, agrees, judgeEach, judge}
+use Rattle.rules.specs.Layouts.{at, tied, station, instrument, antenna, initials, state, anyText, metres, letterOrBlank, kept, titled, project, occupation, comment, measurement, receiver, aerial, point, heights, layouts}
+use Rattle.rules.proofs.Truth.{both, to≤, of≤, to≡, cases}
+use Rattle.kinds.specs.declared.tables.Item.{Item}
+use Rattle.kinds.specs.declared.tables.Item.the-variants as I
+use Rattle.columns.specs.Types.{wayOf, setOf}
+use Rattle.kinds.specs.declared.tables.Bond.{Bond}
+use Rattle.kinds.specs.declared.tables.Bond.the-variants as B
+use Rattle.kinds.specs.Tables.{itemOf, Row, row, rowLists, rows, starts, items, bonds, firsts, widths}
+use Rattle.kinds.specs.declared.Judged.{Judged}
+use Rattle.kinds.specs.Values.{judgedOf}
+use Rattle.kinds.proofs.TableLaws.{each-kind, Begins, begins}
+use Rattle.judging.specs.Judging.{part, numberIn, agreesIn, judgeRow, judgeRowAt, judgeRows, sized}
+
+-- ---- verdicts one after the other
+pub ⨾-assoc : (u v w : Verdict) → (u ⨾ v) ⨾ w ≡ u ⨾ (v ⨾ w)
+unfolding _⨾_
+⨾-assoc ok v w = refl
+⨾-assoc (fault n c) v w = refl
+
+then-on : (u v : Verdict) {w x : Verdict} → w ≡ x → (u ⨾ v) ⨾ w ≡ u ⨾ (v ⨾ x)
+then-on u v {w} e = ⨾-assoc u v w ∙ ap (λ y. u ⨾ (v ⨾ y)) e
+
+-- the answers of the code
+pub good-is : (v : Verdict) → judgedOf v ≡ Judged.Good → v ≡ ok
+unfolding judgedOf
+good-is ok e = refl
+good-is (fault n c) e = cc
+
+pub bad-is : (v : Verdict) (n c : ℕ) → judgedOf v ≡ Judged.Bad n c → v ≡ fault n c
+unfolding judgedOf
+bad-is ok n c e = cc
+bad-is (fault n′ c′) n c e = cc
+
+pub bad-then : (u v : Verdict) (n c : ℕ) → judgedOf u ≡ Judged.Bad n c → judgedOf (u ⨾ v) ≡ Judged.Bad n c
+unfolding _⨾_
+bad-then u v n c e = rw (bad-is u n c e) (unfold judgedOf in refl)
+
+pub good-then : (u v : Verdict) → judgedOf u ≡ Judged.Good → u ⨾ v ≡ v
+unfolding _⨾_
+good-then u v e = rw (good-is u e)
+
+-- ---- what is compared: the columns tell the values
+few : (n : ℕ) (l : List ℕ) → n ≤ 16 → length (take n l) ≤? 16 ≡ true
+few n l h = of≤ (omega (arith, at-most n l))
+  where
+    at-most : (n : ℕ) (l : List ℕ) → length (take n l) ≤ n
+    at-most zero l = omega arith
+    at-most (suc n) [] = omega arith
+    at-most (suc n) (b ∷ l) = let k : length (take n l) ≤ n = at-most n l in omega arith
+
+number-in : (n : ℕ) (l : List ℕ) → n ≤ 16 → numberIn (take n l) ≡ val 0 (take n l)
+number-in n l h = rw (few n l h)
+
+blank-val : (bs : List ℕ) → all isBlank bs ≡ true → val 0 bs ≡ 0
+unfolding all isBlank val
+blank-val [] h = refl
+blank-val (b ∷ bs) h = ap (λ k. val k bs) z ∙ blank-val bs (both h .1)
+  where
+    z : 0 * 10 + (b - 48) ≡ 0
+    z = omega (arith, to≡ (both h .0))
+
+number-tells : (w lo hi : ℕ) (may : Bool) (bs : List ℕ) → numOf (valueOf (number w lo hi may) bs) ≡ val 0 bs
+unfolding valueOf numOf
+number-tells w lo hi may bs = cases (all isBlank bs) (λ e. rw e (sym (blank-val bs e))) (λ e. rw e)
+
+month-tells : (bs : List ℕ) → numOf (valueOf month bs) ≡ val 0 bs
+unfolding valueOf numOf
+month-tells bs = refl
+
+height-tells : (w : ℕ) (may : Bool) (bs : List ℕ) → isMissing (valueOf (height w may) bs) ≡ all isBlank bs
+unfolding valueOf isMissing
+height-tells w may bs = cases (all isBlank bs) (λ e. rw e) (λ e. rw e)
+
+word-tells : (w : ℕ) (t : Test) (bs : List ℕ) → isMissing (valueOf (word w t) bs) ≡ all isBlank bs
+unfolding valueOf isMissing
+word-tells w t bs = refl
+
+-- ---- row by row is field by field
+-- with the two tests of a row apart, and the values compared
+unfoldable apart : Expect → List ℕ → List Row → Verdict
+apart e l [] = ok
+apart e l (r ∷ rs) =
+    let bs = part (r .first) (r .width) l in
+    let rest = apart e l rs in
+    check (good (itemOf (r .item) (r .width)) bs) 9 (r .first + spot (itemOf (r .item) (r .width)) bs)
+    ⨾ check (agreesIn e l (r .bond) bs) 10 (r .first)
+    ⨾ rest
+
+apart-is : (e : Expect) (l : List ℕ) (rs : List Row) → judgeRows e l rs ≡ apart e l rs
+unfolding judgeRows judgeRow apart
+apart-is e l [] = refl
+apart-is e l (r ∷ rs) = then-on _ _ (apart-is e l rs)
+
+abbrev Alike : Expect → List ℕ → ℕ → Type 0
+Alike e l k = apart e l (getD rowLists k []) ≡ judge e (map (read l) (getD layouts k kept))
+
+apart-judge : (e : Expect) (l : List ℕ) (k : ℕ) → k < 14 → Alike e l k
+unfolding apart agreesIn wayOf setOf judge judgeEach agrees agreesWith valueAt read columnsOf width columns layouts kept titled project occupation comment measurement receiver aerial point heights at tied station instrument antenna initials state anyText metres letterOrBlank check _⨾_ _=?_
+apart-judge e l = each-kind (Alike e l) refl refl refl
+    (rw (number-in 6 (drop 10 l) (lit≤ tt), number-in 6 (drop 16 l) (lit≤ tt), month-tells (take 6 (drop 10 l)), month-tells (take 6 (drop 16 l))))
+    refl refl
+    (rw (number-in 4 (drop 10 l) (lit≤ tt), number-tells 4 1 9_999 false (take 4 (drop 10 l))))
+    (rw (number-in 3 (drop 10 l) (lit≤ tt), number-tells 3 1 999 false (take 3 (drop 10 l))))
+    (rw (number-in 3 (drop 10 l) (lit≤ tt), number-tells 3 1 999 false (take 3 (drop 10 l))))
+    refl
+    (rw (
+      number-in 4 (drop 10 l) (lit≤ tt),
+      number-tells 4 1 9_999 false (take 4 (drop 10 l)),
+      height-tells 7 true (take 7 (drop 16 l)),
+      height-tells 7 true (take 7 (drop 35 l)),
+      height-tells 7 true (take 7 (drop 45 l)),
+      word-tells 1 (each (letter or space)) (take 1 (drop 23 l)),
+      word-tells 1 (each (only 89 or only 78 or space)) (take 1 (drop 26 l)),
+      word-tells 1 (each (letter or digit or space)) (take 1 (drop 42 l)),
+      word-tells 1 (each (letter or space)) (take 1 (drop 52 l)),
+    ))
+    refl refl refl
+
+pub rows-judge : (e : Expect) (l : List ℕ) (k : ℕ) → k < 14 → judgeRows e l (getD rowLists k []) ≡ judge e (map (read l) (getD layouts k kept))
+rows-judge e l k h = apart-is e l (getD rowLists k []) ∙ apart-judge e l k h
+
+-- ---- each row lies inside a line, and a number is not too wide: one computed test
+unfoldable inside : Row → Bool
+inside r = 1 ≤? r .first & r .first + r .width ≤? 81 & sized (itemOf (r .item) (r .width))
+
+rows-inside : all inside rows ≡ true
+unfolding all inside sized _&_ _≤?_
+rows-inside = refl
+
+pub record Inside (i : Item) (c w : ℕ) : Type 0 where
+  pub first : 1 ≤ c
+  pub last : c + w ≤ 81
+  pub narrow : sized (itemOf i w) ≡ true
+
+all-at : (rs : List Row) (i : ℕ) → all inside rs ≡ true → i < length rs → inside (getD rs i (row I.Blank 1 0)) ≡ true
+unfolding all
+all-at [] i h k = absurd (omega arith)
+all-at (r ∷ rs) zero h k = both h .0
+all-at (r ∷ rs) (suc i) h k = all-at rs i (both h .1) (omega arith)
+
+-- what the tables say of a row, put together
+row-at : (rs : List Row) (i : ℕ) → i < length rs
+    → getD rs i (row I.Blank 1 0) ≡ record { item = getD (map (λ r. r .item) rs) i I.Blank; bond = getD (map (λ r. r .bond) rs) i B.Free; first = getD (map (λ r. r .first) rs) i 0; width = getD (map (λ r. r .width) rs) i 0 }
+row-at [] i k = absurd (omega arith)
+row-at (r ∷ rs) zero k = refl
+row-at (r ∷ rs) (suc i) k = row-at rs i (omega arith)
+
+rows-67 : length rows ≡ 67
+rows-67 = refl
+
+pub row-inside : (i : ℕ) → i < 67 → Inside (getD items i I.Blank) (getD firsts i 0) (getD widths i 0)
+unfolding inside
+row-inside i h =
+    let k : i < length rows = rw rows-67 h in
+    let t = subst (λ r. inside r ≡ true) (row-at rows i k) (all-at rows i rows-inside k) in
+    record { first = to≤ (both (both t .0) .0); last = to≤ (both (both t .0) .1); narrow = both t .1 }
+
+-- the tables' answers put together
+pub at-requires : (i : ℕ) → i < 67 → {n : ℕ} → 80 ≤ n → (f : ℕ) → f ≡ getD firsts i 0 → (c : ℕ) → c ≡ f → (v : ℕ) → v ≡ getD widths i 0 → (w : ℕ) → w ≡ v → (it : Item) → it ≡ getD items i I.Blank
+    → (80 ≤ n) × (1 ≤ c) × (c + w ≤ 81) × (sized (itemOf it w) ≡ true)
+at-requires i h long f p c q v p′ w q′ it t =
+    let r = row-inside i h in
+    (long, rw (q, p) (r .first), rw (q, p, q′, p′) (r .last), rw (t, q′, p′) (r .narrow))
+
+pub at-is : (e : Expect) (l : List ℕ) (i : ℕ) → (f : ℕ) → f ≡ getD firsts i 0 → (c : ℕ) → c ≡ f → (v : ℕ) → v ≡ getD widths i 0 → (w : ℕ) → w ≡ v → (it : Item) → it ≡ getD items i I.Blank
+    → (b : Bond) → b ≡ getD bonds i B.Free → {r : Judged} → r ≡ judgedOf (judgeRow e l it b c w) → r ≡ judgedOf (judgeRowAt e l i)
+unfolding judgeRowAt
+at-is e l i f p c q v p′ w q′ it t b u z = z ∙ rw (t, u, q, p, q′, p′)
+
+-- ---- the loop: the rows from i on are what was to judge at the start
+pub record Walked (e : Expect) (l : List ℕ) (kind end i : ℕ) : Type 0 where
+  pub low : i ≤ end
+  pub high : end ≤ 67
+  pub same : judgeRows e l (slice i end rows) ≡ judge e (map (read l) (getD layouts kind kept))
+
+pub walk-from : (e : Expect) (l : List ℕ) (kind : ℕ) → kind < 14 → (s : ℕ) → s ≡ getD starts (kind + 1) 0 → (end : ℕ) → end ≡ s → (t : ℕ) → t ≡ getD starts kind 0 → (i : ℕ) → i ≡ t → Walked e l kind end i
+walk-from e l kind h s p end q t p′ i q′ =
+    let b = begins kind h in
+    rw (q, p, q′, p′) record { low = b .low; high = b .high; same = rw (b .whole) (rows-judge e l kind h) }
+
+module _ {e : Expect} {l : List ℕ} {kind end i : ℕ} (v : Walked e l kind end i) (h : i < end) where
+  pub below : i < 67
+  below = omega (arith, v .high)
+
+  step : judgeRows e l (slice i end rows) ≡ judgeRowAt e l i ⨾ judgeRows e l (slice (i + 1) end rows)
+  unfolding judgeRows judgeRowAt
+  step =
+      let k : i < length rows = omega (arith, v .high, rows-67) in
+      let cut : slice i end rows ≡ getD rows i (row I.Blank 1 0) ∷ slice (i + 1) end rows = slice-cons i end rows (row I.Blank 1 0) h (omega (arith, v .high, rows-67)) ∙ rw (add-one i) in
+      ap (judgeRows e l) cut ∙ rw (row-at rows i k)
+
+  pub walk-stop : (j : Judged) → j ≡ judgedOf (judgeRowAt e l i) → (n c : ℕ) → j ≡ Judged.Bad n c → Judged.Bad n c ≡ judgedOf (judge e (map (read l) (getD layouts kind kept)))
+  walk-stop j p n c q = sym (ap judgedOf (sym (v .same) ∙ step) ∙ bad-then _ _ n c (sym p ∙ q))
+
+  pub walk-on : (j : Judged) → j ≡ judgedOf (judgeRowAt e l i) → j ≡ Judged.Good → Walked e l kind end (i + 1)
+  walk-on j p q = record { low = omega arith; high = v .high; same = sym (good-then _ _ (sym p ∙ q)) ∙ sym step ∙ v .same }
+
+pub walk-done : {e : Expect} {l : List ℕ} {kind end i : ℕ} → Walked e l kind end i → end ≤ i → Judged.Good ≡ judgedOf (judge e (map (read l) (getD layouts kind kept)))
+unfolding judgeRows judgedOf
+walk-done {e} {l} {kind} {end} {i} v h =
+    let z : i ≡ end = omega (arith, v .low) in
+    sym (ap judgedOf (sym (v .same) ∙ ap (λ k. judgeRows e l (slice k end rows)) z ∙ ap (judgeRows e l) (slice-empty end rows)))

@@ -1,0 +1,46 @@
+use borrow.Author.Needs.{needs}
+use Rattle.judging.proofs.FieldLaws.{agrees-free, agrees-expected, agrees-began, agrees-orthometric, agrees-geoid, agrees-ellipsoid}
+use Rattle.judging.proofs.fields.agrees_item.Statement.{statement}
+use Rattle.judging.proofs.fields.agrees_item.Tie as tie
+
+pub agrees-item-spec : {M : Type 1} → statement M
+agrees-item-spec =
+    tie.close
+    (tie.spec
+    (λ c. search needs)
+    (λ c. search needs)
+    (λ c κs. search needs)
+    (λ c κs. search needs)
+    (λ c. search needs)
+    (λ c. search needs)
+    (λ c. search needs)
+    (λ c. search needs)
+    (λ c κs. search needs)
+    (λ c κs. search needs)
+    (λ c. search needs)
+    (λ c. search needs)
+    (λ c. search needs)
+    (λ c. search needs)
+    (λ c κs. search needs)
+    (λ c κs. search needs)
+    (λ c κs. search needs)
+    (λ c. search needs)
+    (λ c. search needs)
+    (λ c. search needs)
+    (λ c. search needs)
+    (λ c κs. search needs)
+    (λ c κs. search needs)
+    (λ c κs. search needs)
+    (λ c. search needs)
+    (λ c. search needs)
+    (λ c. search needs)
+    (λ c. search needs)
+    (λ c κs. search needs)
+    (λ c κs. search needs)
+    (λ c κs. search needs)
+    (λ c. search (agrees-free, needs))
+    (λ c. search (agrees-expected, needs))
+    (λ c. search (agrees-began, needs))
+    (λ c. search (agrees-orthometric, needs))
+    (λ c. search (agrees-geoid, needs))
+    (λ c. search (agrees-ellipsoid, needs)))

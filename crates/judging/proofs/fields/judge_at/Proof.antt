@@ -1,0 +1,24 @@
+use borrow.Author.Needs.{needs}
+use mathlib.Core.Path.{_≡_, sym, _∙_}
+use Rattle.judging.proofs.RowLaws.{at-requires, at-is}
+use Rattle.judging.proofs.fields.judge_at.Statement.{statement}
+use Rattle.judging.proofs.fields.judge_at.Tie as tie
+
+pub judge-at-spec : {M : Type 1} → statement M
+judge-at-spec =
+    tie.close
+    (tie.spec
+    (λ c κs. search needs)
+    (λ c κs. search needs)
+    (λ c κs. search needs)
+    (λ c κs. search needs)
+    (λ c κs. search needs)
+    (λ c κs. search needs)
+    (λ c κs. let i = c .before in
+    let w = i .before in
+    let v = w .before in
+    let f = v .before in
+    let s = f .before .before .before in
+    at-requires (s .args .i) (s .pre .1) (s .pre .0) (f .before .first-at .result) (f .before .first-at .ensures) (f .wide .result) (f .wide .ensures)
+    (v .width-at .result) (v .width-at .ensures) (w .wide2 .result) (w .wide2 .ensures) (i .item-at .result) (i .item-at .ensures))
+    (λ c. search (at-is, needs)))

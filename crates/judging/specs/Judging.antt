@@ -1,0 +1,67 @@
+-- The judge of a line's fields as the code goes about it: row by row of the tables, with the columns that a field is compared with at hand.
+use mathlib.Core.Bool.{Bool, true, false, cond}
+use mathlib.Core.List.{List, [], _∷_}
+use Prim.Native.Nat.{ℕ, zero, suc, _+_, _-_}
+use lib.ListN.{length, take, drop, getD}
+use Rattle.rules.specs.Tests.{all, _&_, _≤?_, _=?_}
+use Rattle.rules.specs.Characters.{isBlank, isPrintable}
+use Rattle.rules.specs.Digits.{val}
+use Rattle.rules.specs.Items.{Item, blank, constant, number, height, angle, month, media, word, good, spot}
+use Rattle.rules.specs.Fields.{Expect, Verdict, ok, check, _⨾_, sameTruth, meets}
+use Rattle.rules.specs.Kinds.{dataCodes, kindFrom}
+use Rattle.kinds.specs.declared.tables.Item as code
+use Rattle.kinds.specs.declared.tables.Bond.{Bond}
+use Rattle.kinds.specs.declared.tables.Bond.the-variants as B
+use Rattle.kinds.specs.declared.tables.Item.the-variants as I
+use Rattle.kinds.specs.Tables.{itemOf, Row, items, bonds, firsts, widths}
+
+-- w columns of a line from column c on
+abbrev pub part : ℕ → ℕ → List ℕ → List ℕ
+part c w l = take w (drop (c - 1) l)
+
+-- a number of at most sixteen columns
+abbrev pub numberIn : List ℕ → ℕ
+numberIn bs = cond (length bs ≤? 16) (val 0 bs) 0
+
+-- whether a field's columns agree with the record's earlier ones and with what is expected
+unfoldable pub agreesIn : Expect → List ℕ → Bond → List ℕ → Bool
+agreesIn e l B.Free bs = true
+agreesIn e l B.Expected bs = meets e (numberIn bs)
+agreesIn e l B.NotBegan bs = numberIn (part 11 6 l) ≤? numberIn bs
+agreesIn e l B.WithOrthometric bs = sameTruth (all isBlank (part 17 7 l)) (all isBlank bs)
+agreesIn e l B.WithGeoid bs = sameTruth (all isBlank (part 36 7 l)) (all isBlank bs)
+agreesIn e l B.WithEllipsoid bs = sameTruth (all isBlank (part 46 7 l)) (all isBlank bs)
+
+-- a number's columns are at most sixteen
+unfoldable pub sized : Item → Bool
+sized (blank w) = true
+sized (constant c) = true
+sized (number w lo hi may) = w ≤? 16
+sized (height w may) = true
+sized (angle way) = true
+sized month = true
+sized media = true
+sized (word w t) = true
+
+-- one row: 9 before 10
+unfoldable pub judgeRow : Expect → List ℕ → code.Item → Bond → ℕ → ℕ → Verdict
+judgeRow e l i b c w =
+    check (good (itemOf i w) (part c w l)) 9 (c + spot (itemOf i w) (part c w l)) ⨾ check (agreesIn e l b (part c w l)) 10 c
+
+-- row i of the tables
+unfoldable pub judgeRowAt : Expect → List ℕ → ℕ → Verdict
+judgeRowAt e l i = judgeRow e l (getD items i I.Blank) (getD bonds i B.Free) (getD firsts i 0) (getD widths i 0)
+
+-- the rows from the left
+unfoldable pub judgeRows : Expect → List ℕ → List Row → Verdict
+judgeRows e l [] = ok
+judgeRows e l (r ∷ rs) = judgeRow e l (r .item) (r .bond) (r .first) (r .width) ⨾ judgeRows e l rs
+
+-- ---- the kind of each two-digit code
+abbrev pub kindsFrom : ℕ → ℕ → List ℕ
+kindsFrom zero n = []
+kindsFrom (suc k) n = kindFrom 1 n dataCodes ∷ kindsFrom k (suc n)
+
+-- ---- 80 printable bytes, and a line feed behind them
+unfoldable pub clean : List ℕ → Bool
+clean l = 81 ≤? length l & (all isPrintable (take 80 l) & getD l 80 0 =? 10)

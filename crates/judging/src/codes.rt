@@ -1,0 +1,178 @@
+// Columns 7-10: the kind of a record by its code.
+ghost use mathlib.Core.Path.{_≡_};
+ghost use Prim.Native.Nat.{_<_};
+ghost use lib.ListN.{getD};
+ghost use mathlib.Core.Bool.{true};
+ghost use mathlib.Core.List.{_∷_, []};
+ghost use Rattle.rules.specs.Tests.{_&_};
+ghost use Rattle.rules.specs.Characters.{isDigit, isLetter, letter, digit, _or_, member};
+ghost use Rattle.rules.specs.Digits.{val};
+ghost use Rattle.rules.specs.Kinds.{dataCodes, kindFrom, kindBetween, kindOf};
+ghost use Rattle.rules.specs.Records.{codeAt};
+ghost use Rattle.judging.specs.Judging.{kindsFrom};
+
+// The kind of each two-digit code, 14 where it is not known.
+const KINDS: [u8; 100] = [
+    14,
+    14,
+    14,
+    14,
+    14,
+    14,
+    14,
+    14,
+    14,
+    14,
+    1,
+    2,
+    3,
+    14,
+    14,
+    14,
+    14,
+    14,
+    14,
+    14,
+    14,
+    14,
+    14,
+    14,
+    14,
+    4,
+    5,
+    6,
+    14,
+    14,
+    14,
+    14,
+    14,
+    14,
+    14,
+    14,
+    14,
+    14,
+    14,
+    14,
+    14,
+    14,
+    14,
+    14,
+    14,
+    14,
+    14,
+    14,
+    14,
+    14,
+    14,
+    14,
+    14,
+    14,
+    14,
+    14,
+    14,
+    14,
+    14,
+    14,
+    14,
+    14,
+    14,
+    14,
+    14,
+    14,
+    14,
+    14,
+    14,
+    14,
+    7,
+    14,
+    8,
+    14,
+    14,
+    14,
+    14,
+    14,
+    14,
+    14,
+    9,
+    14,
+    14,
+    14,
+    14,
+    14,
+    10,
+    14,
+    14,
+    14,
+    14,
+    11,
+    12,
+    13,
+    14,
+    14,
+    14,
+    14,
+    14,
+    14,
+];
+
+fn kind_of_number(n: usize) -> u8
+    requires { ⌜ n < 100 ⌝ }
+    ensures { λ r. ⌜ r ≡ getD (kindsFrom 100 0) n 0 ⌝ }
+{
+    KINDS[n]
+}
+
+fn wide(b: u8) -> usize
+    ensures { λ r. ⌜ r ≡ b ⌝ }
+{
+    b as usize
+}
+
+fn is_data(a: u8, b: u8) -> bool
+    ensures { λ r. ⌜ r ≡ isDigit a & isDigit b ⌝ }
+{
+    ((48 <= a) & (a <= 57)) & ((48 <= b) & (b <= 57))
+}
+
+fn is_job(a: u8, b: u8) -> bool
+    ensures { λ r. ⌜ r ≡ isLetter a & member (letter or digit) b ⌝ }
+{
+    ((65 <= a) & (a <= 90)) & (((65 <= b) & (b <= 90)) | ((48 <= b) & (b <= 57)))
+}
+
+fn data_kind(a: u8, b: u8) -> usize
+    requires { ⌜ isDigit a & isDigit b ≡ true ⌝ }
+    ensures { λ r. ⌜ r ≡ kindFrom 1 (val 0 (a ∷ b ∷ [])) dataCodes ⌝ }
+{
+    let n = wide(a - 48) * 10 + wide(b - 48);
+    wide(kind_of_number(n))
+}
+
+// Two digits are a data code; a letter followed by a letter or digit is a job code.
+fn kind_between(a: u8, b: u8) -> usize
+    ensures { λ r. ⌜ r ≡ kindBetween a b ⌝ }
+{
+    if is_data(a, b) {
+        return data_kind(a, b);
+    }
+    if is_job(a, b) {
+        return 0;
+    }
+    14
+}
+
+// An asterisk, two characters, an asterisk.
+pub fn kind_at(line: &[u8]) -> usize
+    ensures { λ r. ⌜ r ≡ kindOf (codeAt (now (line .entry))) ⌝ }
+{
+    if line.len() < 10 {
+        return 14;
+    }
+    if line[6] != 42 {
+        return 14;
+    }
+    if line[9] != 42 {
+        return 14;
+    }
+    kind_between(line[7], line[8])
+}

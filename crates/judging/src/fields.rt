@@ -1,0 +1,181 @@
+// The fields of a line from the left, each of its kind and range (9) and in agreement with earlier ones (10).
+use columns::Set;
+use columns::Way;
+use columns::angles::angle_spot;
+use columns::angles::good_angle;
+use columns::heights::good_height;
+use columns::labels::good_media;
+use columns::numbers::good_month;
+use columns::numbers::good_number;
+use columns::numbers::value_of;
+use columns::sets::all_blank;
+use columns::sets::good_blank;
+use columns::sets::good_constant;
+use columns::sets::good_word;
+use columns::sets::good_word_or_blank;
+use kinds::Expect;
+use kinds::Judged;
+use kinds::tables::Bond;
+use kinds::tables::Item;
+use kinds::tables::bond_at;
+use kinds::tables::first_at;
+use kinds::tables::item_at;
+use kinds::tables::start_at;
+use kinds::tables::width_at;
+ghost use mathlib.Core.Path.{_≡_};
+ghost use mathlib.Core.Bool.{true};
+ghost use mathlib.Core.List.{map};
+ghost use Prim.Native.Nat.{_+_, _≤_, _<_};
+ghost use lib.ListN.{length, getD};
+ghost use Rattle.rules.specs.Items.{good, spot};
+ghost use Rattle.rules.specs.Fields.{read, judge, meets, sameTruth};
+ghost use Rattle.rules.specs.Layouts.{layouts, kept};
+ghost use Rattle.kinds.specs.Tables.{itemOf};
+ghost use Rattle.kinds.specs.Values.{judgedOf, expectOf};
+ghost use Rattle.judging.specs.Judging.{agreesIn, judgeRow, judgeRowAt, sized};
+
+// Of its kind and range.
+fn good_item(item: Item, part: &[u8]) -> bool
+    requires { ⌜ sized (itemOf item (length (now part))) ≡ true ⌝ }
+    ensures { λ r. ⌜ r ≡ good (itemOf item (length (now (part .entry)))) (now (part .entry)) ⌝ }
+{
+    match item {
+        Item::Blank => good_blank(part),
+        Item::Method => good_constant(part, b'4'),
+        Item::Station => good_number(part, 1, 9999, false),
+        Item::Equipment => good_number(part, 1, 999, false),
+        Item::Date => good_number(part, 0, 999_999, false),
+        Item::Time => good_number(part, 0, 9999, false),
+        Item::Rise => good_height(part, false),
+        Item::Metres => good_height(part, true),
+        Item::Month => good_month(part),
+        Item::Media => good_media(part),
+        Item::Latitude => good_angle(part, Way::Latitude),
+        Item::Longitude => good_angle(part, Way::Longitude),
+        Item::Letter => good_word(part, Set::Letter),
+        Item::LetterOrSpace => good_word(part, Set::LetterOrSpace),
+        Item::LetterOrDigitOrSpace => good_word(part, Set::LetterOrDigitOrSpace),
+        Item::YesNoOrSpace => good_word(part, Set::YesNoOrSpace),
+        Item::Pair => good_word_or_blank(part, Set::Digit),
+        Item::Datum => good_word_or_blank(part, Set::LetterOrDigit),
+        Item::Title => good_word(part, Set::Title),
+        Item::Name => good_word(part, Set::Name),
+        Item::Printable => good_word(part, Set::Printable),
+    }
+}
+
+// How far into a bad field the fault is named: an angle's letter is a field of its own.
+fn spot_item(item: Item, part: &[u8]) -> usize
+    ensures { λ r. ⌜ r ≡ spot (itemOf item (length (now (part .entry)))) (now (part .entry)) ⌝ }
+{
+    match item {
+        Item::Blank => 0,
+        Item::Method => 0,
+        Item::Station => 0,
+        Item::Equipment => 0,
+        Item::Date => 0,
+        Item::Time => 0,
+        Item::Rise => 0,
+        Item::Metres => 0,
+        Item::Month => 0,
+        Item::Media => 0,
+        Item::Latitude => angle_spot(part, Way::Latitude),
+        Item::Longitude => angle_spot(part, Way::Longitude),
+        Item::Letter => 0,
+        Item::LetterOrSpace => 0,
+        Item::LetterOrDigitOrSpace => 0,
+        Item::YesNoOrSpace => 0,
+        Item::Pair => 0,
+        Item::Datum => 0,
+        Item::Title => 0,
+        Item::Name => 0,
+        Item::Printable => 0,
+    }
+}
+
+fn wide(b: u8) -> usize
+    ensures { λ r. ⌜ r ≡ b ⌝ }
+{
+    b as usize
+}
+
+fn long(n: u32) -> u64
+    ensures { λ r. ⌜ r ≡ n ⌝ }
+{
+    n as u64
+}
+
+// What the records before ask of a number.
+fn is_met(e: Expect, n: u64) -> bool
+    ensures { λ r. ⌜ r ≡ meets (expectOf e) n ⌝ }
+{
+    match e {
+        Expect::Anything => true,
+        Expect::Same(k) => n == long(k),
+        Expect::Above(k) => long(k) + 1 <= n,
+    }
+}
+
+fn same_truth(a: bool, b: bool) -> bool
+    ensures { λ r. ⌜ r ≡ sameTruth a b ⌝ }
+{
+    (a & b) | (!a & !b)
+}
+
+// In agreement with what stands before it in the line, and with what went before in the file.
+fn agrees_item(e: Expect, line: &[u8], bond: Bond, part: &[u8]) -> bool
+    requires { ⌜ 80 ≤ length (now line) ⌝ }
+    ensures { λ r. ⌜ r ≡ agreesIn (expectOf e) (now (line .entry)) bond (now (part .entry)) ⌝ }
+{
+    match bond {
+        Bond::Free => true,
+        Bond::Expected => is_met(e, value_of(part)),
+        Bond::NotBegan => value_of(&line[10..16]) <= value_of(part),
+        Bond::WithOrthometric => same_truth(all_blank(&line[16..23]), all_blank(part)),
+        Bond::WithGeoid => same_truth(all_blank(&line[35..42]), all_blank(part)),
+        Bond::WithEllipsoid => same_truth(all_blank(&line[45..52]), all_blank(part)),
+    }
+}
+
+// One field: 9 before 10.
+fn judge_row(e: Expect, line: &[u8], item: Item, bond: Bond, first: usize, width: usize) -> Judged
+    requires { ⌜ (80 ≤ length (now line)) × (1 ≤ first) × (first + width ≤ 81) × (sized (itemOf item width) ≡ true) ⌝ }
+    ensures { λ r. ⌜ r ≡ judgedOf (judgeRow (expectOf e) (now (line .entry)) item bond first width) ⌝ }
+{
+    let at = first - 1;
+    let end = at + width;
+    let part = &line[at..end];
+    if good_item(item, part) {
+        if agrees_item(e, line, bond, part) {
+            return Judged::Good;
+        }
+        return Judged::Bad(10, first);
+    }
+    Judged::Bad(9, first + spot_item(item, part))
+}
+
+fn judge_at(e: Expect, line: &[u8], i: usize) -> Judged
+    requires { ⌜ (80 ≤ length (now line)) × (i < 67) ⌝ }
+    ensures { λ r. ⌜ r ≡ judgedOf (judgeRowAt (expectOf e) (now (line .entry)) i) ⌝ }
+{
+    let first = wide(first_at(i));
+    let width = wide(width_at(i));
+    judge_row(e, line, item_at(i), bond_at(i), first, width)
+}
+
+// The fields from column 11 on of a line of a kind.
+pub fn judge_fields(line: &[u8], kind: usize, e: Expect) -> Judged
+    requires { ⌜ (80 ≤ length (now line)) × (kind < 14) ⌝ }
+    ensures { λ r. ⌜ r ≡ judgedOf (judge (expectOf e) (map (read (now (line .entry))) (getD layouts kind kept))) ⌝ }
+{
+    let end = wide(start_at(kind + 1));
+    let mut i = wide(start_at(kind));
+    while i < end {
+        let j = judge_at(e, line, i);
+        if let Judged::Bad(n, c) = j {
+            return Judged::Bad(n, c);
+        }
+        i += 1;
+    }
+    Judged::Good
+}
