@@ -94,7 +94,7 @@ module _ {m : Limits} {w : items.Way} (a : Agrees m w) (bs : List ℕ) where
   unfolding good width shape valueOf digitsUpTo
   angle-good {r} {l} e k q =
       let size : length bs =? suc (columns w) ≡ true = of≡ (omega (arith, e, a .wide)) in
-      rw (letter-is l (m .plus) (m .minus), k, q, a .wide, a .most, a .east, a .west, size, of≤ short, in-range w, true-and, true-and)
+      rw (letter-is l (m .plus) (m .minus), k, q, a .wide, a .most, a .east, a .west, size, of≤ short, in-range w, true-and (all isDigit (take (columns w) bs) & dmsForm (val 0 (take (columns w) bs)) & angleOf (val 0 (take (columns w) bs)) ≤? top w), true-and)
       (sym (&-is _ _) ∙ swap _ _ _)
 
   pub spot-letter : {r : Bool} → r ≡ (length (take (m .columns) bs) ≤? 16 & digitsUpTo (m .top) (take (m .columns) bs)) → r ≡ true → m .columns ≡ spot (angle w) bs

@@ -9,3 +9,5 @@ pub mod NumberLaws
 pub mod ValueLaws
 pub mod WriteLaws
 pub mod AngleLaws
+pub mod RoundTrip
+pub mod Widths

@@ -65,8 +65,8 @@ split-nothing (x ∷ xs) h e = absurd (omega arith)
 
 -- the digits stand after the first column
 pub split-minus : (f last : List ℕ) {s : Split} {n : ℕ} → 0 < length f → s ≡ Split.Minus n
-    → last ≡ put (length (midOf 1 (length (set f 0 45) - 1) (set f 0 45))) n
-    → putMid 1 (length (set f 0 45) - 1) (set f 0 45) last ≡ splitColumns (length f) s
+    → last ≡ put (length (midOf 1 (length f - 1) f)) n
+    → set (putMid 1 (length f - 1) f last) 0 45 ≡ splitColumns (length f) s
 unfolding splitColumns
 split-minus [] last h e d = absurd (omega arith)
 split-minus (x ∷ xs) last h e d = rw (e, d, suc-less-one, take-length xs, drop-length xs, append-nil)

@@ -20,12 +20,12 @@ ghost use Rattle.columns.specs.Types.{wayOf, intOf};
 ghost use Rattle.columns.specs.Leaves.{limitsOf, digitsUpTo, longFits, written};
 
 // How many columns of digits, the largest angle, the largest of the other sign, and the two letters.
-pub struct Limits {
-    pub columns: usize,
-    pub top: u64,
-    pub low: u64,
-    pub plus: u8,
-    pub minus: u8,
+struct Limits {
+    columns: usize,
+    top: u64,
+    low: u64,
+    plus: u8,
+    minus: u8,
 }
 
 // A longitude of 180 degrees is east: of west it has one less.

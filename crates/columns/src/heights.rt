@@ -42,7 +42,7 @@ fn has_minus(part: &[u8]) -> bool
     found
 }
 
-// Any seven columns fit. A blank height is missing, and not 0.
+// Any seven columns fit.
 pub fn read_height(part: &[u8]) -> Height
     ensures { λ r. ⌜ r ≡ cond (length (now (part .entry)) ≤? 7) (heightOf (valueOf (height 0 true) (now (part .entry)))) Height.Missing ⌝ }
 {
@@ -50,7 +50,7 @@ pub fn read_height(part: &[u8]) -> Height
         return Height::Missing;
     }
     if all_blank(part) {
-        return Height::Missing;
+        return Height::Missing; // and not 0
     }
     let negative = has_minus(part);
     let v = sum(part);
@@ -86,8 +86,8 @@ fn put_split(out: &mut [u8], s: Split)
         Split::Plus(n) => put_digits(out, n as u64),
         Split::Minus(n) => {
             if 0 < out.len() {
-                out[0] = b'-';
                 put_digits(&mut out[1..], n as u64);
+                out[0] = b'-';
             }
         }
     }

@@ -45,14 +45,14 @@ pub fn all_blank(part: &[u8]) -> bool
 }
 
 // A set as two ranges and three characters, so that one loop serves all sets. What a set does not need repeats what it has.
-pub struct Ranges {
-    pub low: u8,
-    pub high: u8,
-    pub bottom: u8,
-    pub top: u8,
-    pub one: u8,
-    pub two: u8,
-    pub three: u8,
+struct Ranges {
+    low: u8,
+    high: u8,
+    bottom: u8,
+    top: u8,
+    one: u8,
+    two: u8,
+    three: u8,
 }
 
 fn is_inside(m: Ranges, b: u8) -> bool

@@ -1,3 +1,4 @@
+-- A sign does not take an angle out of its range, so the digits and the letter are all that is judged. Assumes nothing.
 use mathlib.Core.Path.{_≡_, refl, sym, ap, _∙_}
 use borrow.Author.Needs.{needs}
 use native.Mathlib.Omega.{arith}

@@ -1,3 +1,4 @@
+-- By cases. Assumes nothing.
 use mathlib.Core.Path.{_≡_, refl, sym, ap, _∙_}
 use borrow.Author.Needs.{needs}
 use Rattle.columns.specs.Leaves.{limitsOf}

@@ -1,3 +1,4 @@
+-- Too wide or narrow, unfit, or written with the letter of its sign. Assumes nothing.
 use mathlib.Core.Path.{_≡_, refl, sym, ap, _∙_}
 use borrow.Author.Needs.{needs}
 use native.Mathlib.Omega.{arith}

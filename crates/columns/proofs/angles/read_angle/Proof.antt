@@ -1,3 +1,4 @@
+-- The promises one after another; no angle of 64 bits leaves its type. Assumes nothing.
 use mathlib.Core.Path.{_≡_, refl, sym, ap, _∙_}
 use borrow.Author.Needs.{needs}
 use native.Mathlib.Omega.{arith}

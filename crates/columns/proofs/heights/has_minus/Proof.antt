@@ -1,3 +1,4 @@
+-- The invariant: found already, or nothing but blanks so far and still to be found. Assumes nothing.
 use mathlib.Core.Path.{_≡_, refl, sym, ap, _∙_}
 use borrow.Author.Needs.{needs}
 use native.Mathlib.Omega.{arith}

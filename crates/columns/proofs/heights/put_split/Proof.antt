@@ -1,22 +1,16 @@
+-- By the sign, and by whether there is a column. Assumes nothing.
 use mathlib.Core.Path.{_≡_, refl, sym, ap, _∙_}
 use borrow.Author.Needs.{needs}
-use Prim.Native.Nat.{_-_}
-use lib.ListN.{length, set, length-set}
-use borrow.Rule.Slice.PartMut.{same-len-mid}
+use lib.ListN.{length}
 use Rattle.columns.proofs.WriteLaws.{split-digits, split-nothing, split-minus}
 use Rattle.columns.proofs.heights.put_split.Statement.{statement}
 use Rattle.columns.proofs.heights.put_split.Tie as tie
 
-same-length-2 : tie.Need-same-length-2
-same-length-2 c =
-    let f = set (c .before .before .before .before .before .before .before .before .before .args .out .now) 0 45 in
-    same-len-mid 1 (length f - 1) f (c .before .before .put-digits2 .last .0) (c .before .before .put-digits2 .kept .0) ∙ length-set (c .before .before .before .before .before .before .before .before .before .args .out .now) 0 45
-
 pub put-split-spec : {M : Type 1} → statement M
 put-split-spec =
     tie.close
-    (tie.spec (λ c. search needs) (λ c. search needs) (λ c κs. search needs) (λ c. search needs) (λ c. search needs) (λ c. search needs) (λ c. search needs) (λ c. search needs) (λ c. search needs) (λ c κs. search needs) (λ c. search needs)
+    (tie.spec (λ c. search needs) (λ c. search needs) (λ c κs. search needs) (λ c. search needs) (λ c. search needs) (λ c. search needs) (λ c. search needs) (λ c. search needs) (λ c κs. search needs) (λ c. search needs) (λ c. search needs)
     (λ c. split-digits (length (c .before .before .before .before .before .before .before .before .args .out .now)) (c .before .before .before .before .before .s .given .1) (c .before .before .put-digits .ensures))
-    same-length-2
+    (λ c. search needs)
     (λ c. split-minus (c .before .before .before .before .before .before .before .before .before .args .out .now) _ (c .before .before .before .before .if1 .taken) (c .before .before .before .before .before .before .s2 .given .1) (c .before .before .put-digits2 .ensures))
     (λ c. split-nothing (c .before .before .before .before .before .args .out .now) (c .if1 .left) (c .before .before .s2 .given .1)))

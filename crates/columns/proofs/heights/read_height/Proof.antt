@@ -1,3 +1,4 @@
+-- By the length, and by whether all is blank; seven bytes make less than 2 ^ 31. Assumes nothing.
 use mathlib.Core.Path.{_≡_, refl, sym, ap, _∙_}
 use borrow.Author.Needs.{needs}
 use native.Mathlib.Omega.{arith}

@@ -1,3 +1,4 @@
+-- In a field that has its form the last column tells a blank one, and the value fits the width. Assumes nothing.
 use mathlib.Core.Path.{_≡_, refl, sym, ap, _∙_}
 use borrow.Author.Needs.{needs}
 use Rattle.rules.specs.Tests.{_&_}

@@ -1,3 +1,4 @@
+-- Too wide or narrow, unfit, or written. Assumes nothing.
 use mathlib.Core.Path.{_≡_, refl, sym, ap, _∙_}
 use borrow.Author.Needs.{needs}
 use lib.IntN.{pos}

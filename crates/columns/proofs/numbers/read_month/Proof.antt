@@ -1,3 +1,4 @@
+-- By the length; eight bytes make less than 2 ^ 32. Assumes nothing.
 use mathlib.Core.Path.{_≡_, refl, sym, ap, _∙_}
 use borrow.Author.Needs.{needs}
 use native.Mathlib.Omega.{arith}

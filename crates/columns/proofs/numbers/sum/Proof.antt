@@ -1,3 +1,4 @@
+-- The invariant: what is read on from here is what was to be read, and the sum so far is what i bytes can make. Assumes nothing.
 use mathlib.Core.Path.{_≡_, refl, sym, ap, _∙_}
 use borrow.Author.Needs.{needs}
 use native.Mathlib.Omega.{arith}

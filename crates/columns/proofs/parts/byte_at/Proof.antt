@@ -1,3 +1,4 @@
+-- Past the end the default is looked up. Assumes nothing.
 use mathlib.Core.Path.{_≡_, refl, sym, ap, _∙_}
 use borrow.Author.Needs.{needs}
 use lib.ListN.{List·getD-eq-default}

@@ -1,3 +1,4 @@
+-- A loop that tests every column; the law is `all-turn`, whatever is tested. Assumes nothing.
 use mathlib.Core.Path.{_≡_, refl, sym, ap, _∙_}
 use mathlib.Core.Bool.{_&&_}
 use Prim.Native.Nat.{_≤_, _-_}

@@ -1,3 +1,4 @@
+-- The width is the slice's own, and a blank field has no value to judge. Assumes nothing.
 use mathlib.Core.Path.{_≡_, refl, sym, ap, _∙_}
 use borrow.Author.Needs.{needs}
 use Rattle.columns.proofs.ItemLaws.{good-blank}

@@ -1,3 +1,4 @@
+-- Set by set. Assumes nothing.
 use mathlib.Core.Path.{_≡_, sym, ap, _∙_}
 use borrow.Author.Needs.{needs}
 use Rattle.columns.specs.Leaves.{rangesOf}

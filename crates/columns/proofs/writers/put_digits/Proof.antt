@@ -1,3 +1,4 @@
+-- The invariant: the columns from i on hold the last digits, and those of the rest are still to come. Assumes nothing.
 use mathlib.Core.Path.{_≡_, refl, sym, ap, _∙_}
 use borrow.Author.Needs.{needs}
 use native.Mathlib.Omega.{arith}
