@@ -1,0 +1,3 @@
+-- What the promises cite beside `rules` and `kinds`: Values says a line's typed values by their columns, Widths how wide the field at a column is.
+pub mod Values
+pub mod Widths

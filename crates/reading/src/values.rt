@@ -1,0 +1,265 @@
+// The typed values of a line that was judged good, each from its own columns. They are values of some kind for any line at all.
+use columns::Count;
+use columns::Four;
+use columns::Height;
+use columns::Way;
+use columns::angles::read_angle;
+use columns::heights::read_height;
+use columns::labels::read_media;
+use columns::numbers::read_count;
+use columns::numbers::read_month;
+use columns::parts::byte_at;
+use columns::parts::middle;
+use kinds::Antenna;
+use kinds::Comment;
+use kinds::Continuation;
+use kinds::Factor;
+use kinds::Heights;
+use kinds::Instrument;
+use kinds::Job;
+use kinds::Local;
+use kinds::Measurement;
+use kinds::Network;
+use kinds::Occupation;
+use kinds::Point;
+use kinds::Project;
+use kinds::Record;
+use kinds::Sequence;
+use kinds::Three;
+use kinds::Title;
+use kinds::Two;
+ghost use mathlib.Core.Path.{_≡_};
+ghost use Prim.Native.Nat.{_≤_, _-_, _<_};
+ghost use lib.ListN.{take, drop, getD};
+ghost use Rattle.rules.specs.Items.{valueOf};
+ghost use Rattle.rules.specs.Records.{sequence};
+ghost use Rattle.kinds.specs.Values.{sequenceOf, two, three};
+ghost use Rattle.columns.specs.Types.{four};
+ghost use Rattle.reading.specs.Values.{natIn, monthIn, riseIn, heightIn, projectIn, occupationIn, measurementIn, instrumentIn, antennaIn, pointIn, heightsIn, jobIn, recordIn};
+
+pub fn read_sequence(line: &[u8]) -> Sequence
+    ensures { λ r. ⌜ r ≡ sequenceOf (valueOf sequence (take 6 (now (line .entry)))) ⌝ }
+{
+    match read_count(middle(line, 0, 6)) {
+        Count::Missing => Sequence::Missing,
+        Count::Is(n) => Sequence::Number(n),
+    }
+}
+
+// A number that is never missing.
+fn number_in(line: &[u8], first: usize, width: usize) -> u32
+    requires { ⌜ (1 ≤ first) × (width ≤ 8) ⌝ }
+    ensures { λ r. ⌜ r ≡ natIn first width (now (line .entry)) ⌝ }
+{
+    match read_count(middle(line, first - 1, width)) {
+        Count::Missing => 0,
+        Count::Is(n) => n,
+    }
+}
+
+fn month_in(line: &[u8], first: usize) -> u32
+    requires { ⌜ 1 ≤ first ⌝ }
+    ensures { λ r. ⌜ r ≡ monthIn first (now (line .entry)) ⌝ }
+{
+    read_month(middle(line, first - 1, 6))
+}
+
+fn height_in(line: &[u8], first: usize) -> Height
+    requires { ⌜ 1 ≤ first ⌝ }
+    ensures { λ r. ⌜ r ≡ heightIn first (now (line .entry)) ⌝ }
+{
+    read_height(middle(line, first - 1, 7))
+}
+
+// A height that is never missing.
+fn rise_in(line: &[u8]) -> i32
+    ensures { λ r. ⌜ r ≡ riseIn (now (line .entry)) ⌝ }
+{
+    match read_height(middle(line, Measurement::HEIGHT - 1, Measurement::HEIGHT_WIDTH)) {
+        Height::Missing => 0,
+        Height::Mm(z) => z,
+    }
+}
+
+fn two_in(line: &[u8], first: usize) -> Two
+    requires { ⌜ 1 ≤ first ⌝ }
+    ensures { λ r. ⌜ r ≡ two (take 2 (drop (first - 1) (now (line .entry)))) ⌝ }
+{
+    let p = middle(line, first - 1, 2);
+    Two(byte_at(p, 0), byte_at(p, 1))
+}
+
+fn three_in(line: &[u8], first: usize) -> Three
+    requires { ⌜ 1 ≤ first ⌝ }
+    ensures { λ r. ⌜ r ≡ three (take 3 (drop (first - 1) (now (line .entry)))) ⌝ }
+{
+    let p = middle(line, first - 1, 3);
+    Three(byte_at(p, 0), byte_at(p, 1), byte_at(p, 2))
+}
+
+fn four_in(line: &[u8], first: usize) -> Four
+    requires { ⌜ 1 ≤ first ⌝ }
+    ensures { λ r. ⌜ r ≡ four (take 4 (drop (first - 1) (now (line .entry)))) ⌝ }
+{
+    let p = middle(line, first - 1, 4);
+    Four(byte_at(p, 0), byte_at(p, 1), byte_at(p, 2), byte_at(p, 3))
+}
+
+fn char_in(line: &[u8], first: usize) -> u8
+    requires { ⌜ 1 ≤ first ⌝ }
+    ensures { λ r. ⌜ r ≡ getD (take 1 (drop (first - 1) (now (line .entry)))) 0 0 ⌝ }
+{
+    byte_at(middle(line, first - 1, 1), 0)
+}
+
+fn read_job(line: &[u8]) -> Job
+    ensures { λ r. ⌜ r ≡ jobIn (now (line .entry)) ⌝ }
+{
+    let code = middle(line, 6, 4);
+    Job::new(byte_at(code, 1), byte_at(code, 2))
+}
+
+fn read_project(line: &[u8]) -> Project
+    ensures { λ r. ⌜ r ≡ projectIn (now (line .entry)) ⌝ }
+{
+    Project::new(
+        month_in(line, Project::BEGAN),
+        month_in(line, Project::ENDED),
+        three_in(line, Project::INITIALS),
+        three_in(line, Project::SECOND_INITIALS),
+        two_in(line, Project::STATE),
+    )
+}
+
+fn read_occupation(line: &[u8]) -> Occupation
+    ensures { λ r. ⌜ r ≡ occupationIn (now (line .entry)) ⌝ }
+{
+    Occupation::new(
+        number_in(line, Occupation::STATION, Occupation::STATION_WIDTH),
+        read_media(middle(line, Occupation::MEDIA - 1, Occupation::MEDIA_WIDTH)),
+        three_in(line, Occupation::INITIALS),
+        number_in(line, Occupation::INSTRUMENT, Occupation::INSTRUMENT_WIDTH),
+        number_in(line, Occupation::ANTENNA, Occupation::ANTENNA_WIDTH),
+    )
+}
+
+fn read_measurement(line: &[u8]) -> Measurement
+    ensures { λ r. ⌜ r ≡ measurementIn (now (line .entry)) ⌝ }
+{
+    Measurement::new(
+        number_in(line, Measurement::STATION, Measurement::STATION_WIDTH),
+        number_in(line, Measurement::DATE, Measurement::DATE_WIDTH),
+        number_in(line, Measurement::TIME, Measurement::TIME_WIDTH),
+        rise_in(line),
+    )
+}
+
+fn read_instrument(line: &[u8]) -> Instrument
+    ensures { λ r. ⌜ r ≡ instrumentIn (now (line .entry)) ⌝ }
+{
+    Instrument::new(
+        number_in(line, Instrument::INSTRUMENT, Instrument::INSTRUMENT_WIDTH),
+        number_in(line, Instrument::EQUIPMENT, Instrument::EQUIPMENT_WIDTH),
+    )
+}
+
+fn read_antenna(line: &[u8]) -> Antenna
+    ensures { λ r. ⌜ r ≡ antennaIn (now (line .entry)) ⌝ }
+{
+    Antenna::new(
+        number_in(line, Antenna::ANTENNA, Antenna::ANTENNA_WIDTH),
+        four_in(line, Antenna::RADOME),
+    )
+}
+
+fn read_point(line: &[u8]) -> Point
+    ensures { λ r. ⌜ r ≡ pointIn (now (line .entry)) ⌝ }
+{
+    Point::new(
+        number_in(line, Point::STATION, Point::STATION_WIDTH),
+        read_angle(middle(line, Point::LATITUDE - 1, 12), Way::Latitude),
+        read_angle(middle(line, Point::LONGITUDE - 1, 13), Way::Longitude),
+        two_in(line, Point::STATE),
+    )
+}
+
+fn read_heights(line: &[u8]) -> Heights
+    ensures { λ r. ⌜ r ≡ heightsIn (now (line .entry)) ⌝ }
+{
+    Heights::new(
+        number_in(line, Heights::STATION, Heights::STATION_WIDTH),
+        height_in(line, Heights::ORTHOMETRIC),
+        char_in(line, Heights::CODE),
+        two_in(line, Heights::CLASS),
+        char_in(line, Heights::INDICATOR),
+        two_in(line, Heights::DATUM),
+        height_in(line, Heights::GEOID),
+        char_in(line, Heights::GEOID_CODE),
+        height_in(line, Heights::ELLIPSOID),
+        char_in(line, Heights::ELLIPSOID_CODE),
+        char_in(line, Heights::ELLIPSOID_DATUM),
+    )
+}
+
+// The first seven kinds.
+fn read_low(line: &[u8], kind: usize) -> Record
+    requires { ⌜ kind < 7 ⌝ }
+    ensures { λ r. ⌜ r ≡ recordIn kind (now (line .entry)) ⌝ }
+{
+    if kind < 1 {
+        return Record::Job(read_job(line));
+    }
+    if kind < 2 {
+        return Record::Title(Title::new());
+    }
+    if kind < 3 {
+        return Record::Continuation(Continuation::new());
+    }
+    if kind < 4 {
+        return Record::Project(read_project(line));
+    }
+    if kind < 5 {
+        return Record::Occupation(read_occupation(line));
+    }
+    if kind < 6 {
+        return Record::Comment(Comment::new());
+    }
+    Record::Measurement(read_measurement(line))
+}
+
+// The others.
+fn read_high(line: &[u8], kind: usize) -> Record
+    requires { ⌜ (7 ≤ kind) × (kind < 14) ⌝ }
+    ensures { λ r. ⌜ r ≡ recordIn kind (now (line .entry)) ⌝ }
+{
+    if kind < 8 {
+        return Record::Instrument(read_instrument(line));
+    }
+    if kind < 9 {
+        return Record::Antenna(read_antenna(line));
+    }
+    if kind < 10 {
+        return Record::Point(read_point(line));
+    }
+    if kind < 11 {
+        return Record::Heights(read_heights(line));
+    }
+    if kind < 12 {
+        return Record::Network(Network::new());
+    }
+    if kind < 13 {
+        return Record::Local(Local::new());
+    }
+    Record::Factor(Factor::new())
+}
+
+// The record of a line of a kind.
+pub fn read_record(line: &[u8], kind: usize) -> Record
+    requires { ⌜ kind < 14 ⌝ }
+    ensures { λ r. ⌜ r ≡ recordIn kind (now (line .entry)) ⌝ }
+{
+    if kind < 7 {
+        return read_low(line, kind);
+    }
+    read_high(line, kind)
+}
