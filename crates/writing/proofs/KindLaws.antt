@@ -1,0 +1,121 @@
+-- The values of each kind of record as a row of tests: what is blank, constant or free leaves no test. Assumes nothing.
+use mathlib.Core.Path.{_≡_, refl}
+use mathlib.Core.Bool.{Bool, true, false, cond}
+use mathlib.Core.List.{List, [], _∷_}
+use Prim.Native.Nat.{ℕ}
+use lib.IntN.{ℤ, pos}
+use Rattle.rules.specs.Tests.{_&_, _≤?_, _=?_, within}
+use Rattle.rules.specs.Characters.{isPrintable}
+use Rattle.rules.specs.Characters as sets
+use Rattle.rules.specs.Items.{Value, num, text, Item, number, height, angle, month, media, word, each, orBlank, latitude, longitude, onGap, fits}
+use Rattle.rules.specs.Fields.{Verdict, check, _⨾_, anything, given, entriesOf, valueAt, numOf, isMissing, sameTruth, meets, agreesWith, agrees, judgeEach, judge}
+use Rattle.rules.specs.Layouts.{at, tied, station, instrument, antenna, initials, state, anyText, metres, letterOrBlank, kept, titled, project, occupation, comment, measurement, receiver, aerial, point, heights}
+use Rattle.columns.specs.declared.Set.{Set}
+use Rattle.columns.specs.declared.Height.{Height}
+use Rattle.columns.specs.Types.{setOf, heightValue, mediaValue, fourOf}
+use Rattle.kinds.specs.declared.Record.the-variants as R
+use Rattle.kinds.specs.declared.Project.{Project}
+use Rattle.kinds.specs.declared.Occupation.{Occupation}
+use Rattle.kinds.specs.declared.Measurement.{Measurement}
+use Rattle.kinds.specs.declared.Instrument.{Instrument}
+use Rattle.kinds.specs.declared.Antenna.{Antenna}
+use Rattle.kinds.specs.declared.Point.{Point}
+use Rattle.kinds.specs.declared.Heights.{Heights}
+use Rattle.kinds.specs.Values.{twoText, threeText, valuesOf}
+use Rattle.writing.proofs.JudgeLaws.{chain}
+
+-- a value of its kind and range
+unfoldable pub form : Item → Value → ℕ → Verdict
+form i v c = check (fits i v) 9 c
+
+-- a character that is blank exactly when a height is missing
+unfoldable pub tie : Height → ℕ → ℕ → Verdict
+tie h t c = check (sameTruth (isMissing (heightValue h)) (isMissing (text (t ∷ [])))) 10 c
+
+unfoldable pub wordOf : ℕ → Set → Item
+wordOf w s = word w (each (setOf s))
+
+module _ (p : Project) (a b : List ℕ) where
+  unfoldable pub projectTests : List Verdict
+  projectTests =
+      form month (num (pos (p .began))) 11 ∷ form month (num (pos (p .ended))) 17 ∷ check (p .began ≤? p .ended) 10 17
+      ∷ form (wordOf 3 Set.LetterOrSpace) (text (threeText (p .initials))) 23 ∷ form (wordOf 18 Set.Name) (text a) 26
+      ∷ form (wordOf 3 Set.LetterOrSpace) (text (threeText (p .second))) 44 ∷ form (wordOf 18 Set.Name) (text b) 47
+      ∷ form (wordOf 2 Set.Letter) (text (twoText (p .state))) 77 ∷ []
+
+  pub project-chain : judge anything (entriesOf project (valuesOf (R.Project p) a b [])) ≡ chain projectTests
+  unfolding judge judgeEach entriesOf given agrees agreesWith valueAt numOf check _⨾_ fits onGap isPrintable within _&_ _≤?_ _=?_ at tied initials state project valuesOf chain projectTests form wordOf setOf
+  project-chain = refl
+
+module _ (o : Occupation) where
+  unfoldable pub occupationTests : List Verdict
+  occupationTests =
+      form (number 4 1 9_999 false) (num (pos (o .station))) 11 ∷ form media (mediaValue (o .media)) 15
+      ∷ form (wordOf 3 Set.LetterOrSpace) (text (threeText (o .initials))) 25 ∷ form (number 3 1 999 false) (num (pos (o .instrument))) 28
+      ∷ form (number 3 1 999 false) (num (pos (o .antenna))) 33 ∷ []
+
+  pub occupation-chain : judge anything (entriesOf occupation (valuesOf (R.Occupation o) [] [] [])) ≡ chain occupationTests
+  unfolding judge judgeEach entriesOf given agrees agreesWith check _⨾_ fits onGap at station instrument antenna initials occupation valuesOf chain occupationTests form wordOf setOf
+  occupation-chain = refl
+
+module _ (m : Measurement) where
+  unfoldable pub measurementTests : List Verdict
+  measurementTests =
+      form (number 4 1 9_999 false) (num (pos (m .station))) 11 ∷ form (number 6 0 999_999 false) (num (pos (m .date))) 15
+      ∷ form (number 4 0 9_999 false) (num (pos (m .time))) 21 ∷ form (height 5 false) (num (m .height)) 56 ∷ []
+
+  pub measurement-chain : judge anything (entriesOf measurement (valuesOf (R.Measurement m) [] [] [])) ≡ chain measurementTests
+  unfolding judge judgeEach entriesOf given agrees agreesWith meets check _⨾_ fits onGap at tied station measurement valuesOf chain measurementTests form
+  measurement-chain = refl
+
+module _ (i : Instrument) (a b c : List ℕ) where
+  unfoldable pub instrumentTests : List Verdict
+  instrumentTests =
+      form (number 3 1 999 false) (num (pos (i .instrument))) 11 ∷ form (number 3 1 999 false) (num (pos (i .equipment))) 14
+      ∷ form (wordOf 18 Set.Printable) (text a) 23 ∷ form (wordOf 8 Set.Printable) (text b) 63 ∷ form (wordOf 10 Set.Printable) (text c) 71 ∷ []
+
+  pub instrument-chain : judge anything (entriesOf receiver (valuesOf (R.Instrument i) a b c)) ≡ chain instrumentTests
+  unfolding judge judgeEach entriesOf given agrees agreesWith meets check _⨾_ fits onGap at tied instrument anyText receiver valuesOf chain instrumentTests form wordOf setOf
+  instrument-chain = refl
+
+module _ (n : Antenna) (a b : List ℕ) where
+  unfoldable pub antennaTests : List Verdict
+  antennaTests =
+      form (number 3 1 999 false) (num (pos (n .antenna))) 11 ∷ form (wordOf 16 Set.Printable) (text a) 17
+      ∷ form (wordOf 4 Set.Letter) (text (fourOf (n .radome))) 33 ∷ form (wordOf 20 Set.Printable) (text b) 45 ∷ []
+
+  pub antenna-chain : judge anything (entriesOf aerial (valuesOf (R.Antenna n) a b [])) ≡ chain antennaTests
+  unfolding judge judgeEach entriesOf given agrees agreesWith meets check _⨾_ fits onGap at tied antenna anyText aerial valuesOf chain antennaTests form wordOf setOf
+  antenna-chain = refl
+
+module _ (p : Point) (a : List ℕ) where
+  unfoldable pub pointTests : List Verdict
+  pointTests =
+      form (number 4 1 9_999 false) (num (pos (p .station))) 11 ∷ form (wordOf 30 Set.Printable) (text a) 15
+      ∷ form (angle latitude) (num (p .latitude)) 45 ∷ form (angle longitude) (num (p .longitude)) 57
+      ∷ form (wordOf 2 Set.Letter) (text (twoText (p .state))) 77 ∷ []
+
+  pub point-chain : judge anything (entriesOf point (valuesOf (R.Point p) a [] [])) ≡ chain pointTests
+  unfolding judge judgeEach entriesOf given agrees agreesWith check _⨾_ fits onGap at station anyText state point valuesOf chain pointTests form wordOf setOf
+  point-chain = refl
+
+module _ (h : Heights) (a b : List ℕ) where
+  unfoldable pub heightsTests : List Verdict
+  heightsTests =
+      form (number 4 1 9_999 false) (num (pos (h .station))) 11
+      ∷ form (height 7 true) (heightValue (h .orthometric)) 17
+      ∷ form (wordOf 1 Set.LetterOrSpace) (text (h .code ∷ [])) 24 ∷ tie (h .orthometric) (h .code) 24
+      ∷ form (word 2 (orBlank (setOf Set.Digit))) (text (twoText (h .class))) 25
+      ∷ form (wordOf 1 Set.YesNoOrSpace) (text (h .indicator ∷ [])) 27 ∷ tie (h .orthometric) (h .indicator) 27
+      ∷ form (word 2 (orBlank (setOf Set.LetterOrDigit))) (text (twoText (h .datum))) 28
+      ∷ form (wordOf 6 Set.Printable) (text a) 30
+      ∷ form (height 7 true) (heightValue (h .geoid)) 36
+      ∷ form (wordOf 1 Set.LetterOrDigitOrSpace) (text (h .geoidcode ∷ [])) 43 ∷ tie (h .geoid) (h .geoidcode) 43
+      ∷ form (height 7 true) (heightValue (h .ellipsoid)) 46
+      ∷ form (wordOf 1 Set.LetterOrSpace) (text (h .ellipsoidcode ∷ [])) 53 ∷ tie (h .ellipsoid) (h .ellipsoidcode) 53
+      ∷ form (wordOf 1 Set.LetterOrSpace) (text (h .ellipsoiddatum ∷ [])) 56
+      ∷ form (wordOf 24 Set.Printable) (text b) 57 ∷ []
+
+  pub heights-chain : judge anything (entriesOf heights (valuesOf (R.Heights h) a b [])) ≡ chain heightsTests
+  unfolding judge judgeEach entriesOf given agrees agreesWith meets valueAt check _⨾_ fits onGap _=?_ at tied station anyText metres letterOrBlank heights valuesOf chain heightsTests form tie wordOf setOf
+  heights-chain = refl

@@ -1,0 +1,7 @@
+use mathlib.Core.Path.{_≡_, refl, sym, ap, _∙_}
+use borrow.Author.Needs.{needs}
+use Rattle.writing.proofs.judging.judge_media.Statement.{statement}
+use Rattle.writing.proofs.judging.judge_media.Tie as tie
+
+pub judge-media-spec : {M : Type 1} → statement M
+judge-media-spec = tie.close (tie.spec (λ c κs. search needs) (λ c κs. search needs) (λ c. c .judge-test .ensures ∙ rw (c .before .media-fits .ensures)))

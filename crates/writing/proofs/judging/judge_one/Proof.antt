@@ -1,0 +1,7 @@
+use mathlib.Core.Path.{_≡_, refl, sym, ap, _∙_}
+use borrow.Author.Needs.{needs}
+use Rattle.writing.proofs.judging.judge_one.Statement.{statement}
+use Rattle.writing.proofs.judging.judge_one.Tie as tie
+
+pub judge-one-spec : {M : Type 1} → statement M
+judge-one-spec = tie.close (tie.spec (λ c. search needs) (λ c κs. search needs) (λ c. c .judge-text .ensures))

@@ -1,0 +1,23 @@
+use mathlib.Core.Path.{_≡_, refl, sym, ap, _∙_}
+use borrow.Author.Needs.{needs}
+use native.Mathlib.Omega.{arith}
+use mathlib.Core.Bool.{true}
+use Prim.Native.Nat.{_+_, _-_, _≤_}
+use lib.ListN.{length}
+use Rattle.writing.proofs.LayLaws.{room-fits, lent-wide, lay-put, lay-not, written-is, media-wide, media-columns}
+use Rattle.rules.specs.Items.{media}
+use Rattle.columns.specs.Types.{mediaValue}
+use Rattle.writing.proofs.laying.lay_media.Statement.{statement}
+use Rattle.writing.proofs.laying.lay_media.Tie as tie
+
+room : (c : tie.Then1) → (1 ≤ c .before .before .before .args .column) × (c .before .before .before .args .column - 1 + 10 ≤ length (c .before .before .before .args .line .now))
+room c = let a = c .before .before .before .args in room-fits (length (a .line .now)) (a .column) (10) (sym (c .before .has-room .ensures) ∙ c .if1 .taken)
+
+returns : tie.Need-returns
+returns c =
+    let a = c .before .before .before .before .before .before .before .args in
+    let h = sym (c .before .before .before .before .before .has-room .ensures) ∙ c .before .before .before .before .if1 .taken in
+    lay-put (a .column) (10) (a .line .now) h (c .before .before .put-media .ensures ∙ written-is media (mediaValue (a .m)) _ (lent-wide (a .column) (10) (a .line .now) h ∙ sym media-columns) (c .before .before .before .before .before .before .before .pre)) (media-wide (mediaValue (a .m)) (c .before .before .before .before .before .before .before .pre))
+
+pub lay-media-spec : {M : Type 1} → statement M
+lay-media-spec = tie.close (tie.spec (λ c κs. search needs) (λ c. omega (arith, room c)) (λ c. omega (arith, room c)) (λ c. search needs) (λ c. search needs) (λ c. omega (arith, room c)) (λ c κs. search needs) (λ c. search needs) returns (λ c. let a = c .before .before .before .args in lay-not (a .column) (10) (a .line .now) _ (sym (c .before .has-room .ensures) ∙ c .if1 .left) (media-wide (mediaValue (a .m)) (c .before .before .before .pre))))

@@ -1,0 +1,22 @@
+use mathlib.Core.Path.{_≡_, refl, sym, ap, _∙_}
+use borrow.Author.Needs.{needs}
+use native.Mathlib.Omega.{arith}
+use mathlib.Core.Bool.{true}
+use Prim.Native.Nat.{_+_, _-_, _≤_}
+use lib.ListN.{length}
+use borrow.Rule.Slice.PartMut.{midOf}
+use Rattle.writing.proofs.LayLaws.{room-fits, lent-wide, lay-put, lay-not, text-is}
+use Rattle.writing.proofs.laying.lay_text.Statement.{statement}
+use Rattle.writing.proofs.laying.lay_text.Tie as tie
+
+room : (c : tie.Then1) → (1 ≤ c .before .before .before .before .args .column) × (c .before .before .before .before .args .column - 1 + length (c .before .before .before .before .args .t .now) ≤ length (c .before .before .before .before .args .line .now))
+room c = let a = c .before .before .before .before .args in room-fits (length (a .line .now)) (a .column) (length (a .t .now)) (sym (c .before .has-room .ensures) ∙ c .if1 .taken)
+
+returns : tie.Need-returns
+returns c =
+    let a = c .before .before .before .before .before .before .before .before .args in
+    let h = sym (c .before .before .before .before .before .has-room .ensures) ∙ c .before .before .before .before .if1 .taken in
+    lay-put (a .column) (length (a .t .now)) (a .line .now) h (c .before .before .put-text .ensures ∙ text-is (a .t .now) (midOf (a .column - 1) (a .column - 1 + length (a .t .now) - (a .column - 1)) (a .line .now)) (lent-wide (a .column) (length (a .t .now)) (a .line .now) h)) (refl)
+
+pub lay-text-spec : {M : Type 1} → statement M
+lay-text-spec = tie.close (tie.spec (λ c κs. search needs) (λ c. omega (arith, room c)) (λ c. omega (arith, room c)) (λ c. search needs) (λ c. search needs) (λ c. omega (arith, room c)) (λ c κs. search needs) (λ c. search needs) returns (λ c. let a = c .before .before .before .before .args in lay-not (a .column) (length (a .t .now)) (a .line .now) _ (sym (c .before .has-room .ensures) ∙ c .if1 .left) (refl)))

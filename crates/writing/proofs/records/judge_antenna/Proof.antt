@@ -1,0 +1,18 @@
+use mathlib.Core.Path.{_≡_, refl, sym, ap, _∙_}
+use borrow.Author.Needs.{needs}
+use Rattle.writing.proofs.JudgeLaws.{after-chain}
+use Rattle.writing.proofs.KindLaws.{form, tie, wordOf, antennaTests, antenna-chain}
+use Rattle.writing.specs.Judging.{afterOf}
+use Rattle.columns.specs.Types.{wayOf, heightValue}
+use Rattle.writing.proofs.records.judge_antenna.Statement.{statement}
+use Rattle.writing.proofs.records.judge_antenna.Tie as tie
+
+returns : tie.Need-returns
+unfolding antennaTests form tie wordOf wayOf heightValue
+returns c =
+    let a = c .before .before .before .before .before .before .args in
+    rw (c .judge-text2 .ensures, c .before .judge-four .ensures, c .before .before .judge-text .ensures, c .before .before .before .judge-count .ensures)
+    (after-chain (a .j) (antennaTests (a .n) (a .a .now) (a .b .now)) ∙ ap (afterOf (a .j)) (sym (antenna-chain (a .n) (a .a .now) (a .b .now))))
+
+pub judge-antenna-spec : {M : Type 1} → statement M
+judge-antenna-spec = tie.close (tie.spec (λ c κs. search needs) (λ c κs. search needs) (λ c κs. search needs) (λ c κs. search needs) returns)

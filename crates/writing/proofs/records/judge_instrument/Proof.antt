@@ -1,0 +1,18 @@
+use mathlib.Core.Path.{_≡_, refl, sym, ap, _∙_}
+use borrow.Author.Needs.{needs}
+use Rattle.writing.proofs.JudgeLaws.{after-chain}
+use Rattle.writing.proofs.KindLaws.{form, tie, wordOf, instrumentTests, instrument-chain}
+use Rattle.writing.specs.Judging.{afterOf}
+use Rattle.columns.specs.Types.{wayOf, heightValue}
+use Rattle.writing.proofs.records.judge_instrument.Statement.{statement}
+use Rattle.writing.proofs.records.judge_instrument.Tie as tie
+
+returns : tie.Need-returns
+unfolding instrumentTests form tie wordOf wayOf heightValue
+returns c =
+    let a = c .before .before .before .before .before .before .before .before .args in
+    rw (c .judge-text3 .ensures, c .before .judge-text2 .ensures, c .before .before .judge-text .ensures, c .before .before .before .judge-count2 .ensures, c .before .before .before .before .judge-count .ensures)
+    (after-chain (a .j) (instrumentTests (a .i) (a .a .now) (a .b .now) (a .c .now)) ∙ ap (afterOf (a .j)) (sym (instrument-chain (a .i) (a .a .now) (a .b .now) (a .c .now))))
+
+pub judge-instrument-spec : {M : Type 1} → statement M
+judge-instrument-spec = tie.close (tie.spec (λ c κs. search needs) (λ c κs. search needs) (λ c κs. search needs) (λ c κs. search needs) (λ c κs. search needs) returns)

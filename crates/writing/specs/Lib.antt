@@ -1,0 +1,3 @@
+-- The definitions that the promises of the parts cite beside those of `rules` and `kinds`.
+pub mod Judging
+pub mod Laying

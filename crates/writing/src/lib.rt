@@ -1,0 +1,51 @@
+// One record of 81 bytes from values. The values are judged first and laid into the output only when all are good, so that a
+// refusal leaves the output as it was.
+use kinds::Fault;
+use kinds::Judged;
+use kinds::Record;
+use kinds::Sequence;
+use kinds::Written;
+
+mod judging;
+mod laying;
+mod lines;
+mod records;
+
+use lines::lay_line;
+use records::judge_given;
+ghost use mathlib.Core.Path.{_≡_};
+ghost use lib.ListN.{length};
+ghost use Rattle.rules.specs.Calls.{writeVerdict, writeOutput};
+ghost use Rattle.kinds.specs.Values.{sequenceValue, kindNumber, meaningOf, writtenOf};
+
+// Texts of more than four columns are given beside the record, in column order; a record that has fewer takes no notice of the rest.
+pub fn write(
+    out: &mut [u8],
+    sequence: Sequence,
+    what: Record,
+    first: &[u8],
+    second: &[u8],
+    third: &[u8],
+) -> Written
+    ensures answer { λ r. ⌜ r ≡ writtenOf (writeVerdict (length (now (out .entry))) (kindNumber what) (sequenceValue sequence) (meaningOf what (now (first .entry)) (now (second .entry)) (now (third .entry)))) ⌝ }
+    ensures output { λ _. ⌜ now (out .exit) ≡ writeOutput (kindNumber what) (sequenceValue sequence) (meaningOf what (now (first .entry)) (now (second .entry)) (now (third .entry))) (now (out .entry)) ⌝ }
+{
+    if out.len() < 81 {
+        return Written::Refused(Fault {
+            number: 1,
+            record: 0,
+            column: 0,
+        });
+    }
+    match judge_given(sequence, what, first, second, third) {
+        Judged::Bad(number, column) => Written::Refused(Fault {
+            number: number,
+            record: 0,
+            column: column,
+        }),
+        Judged::Good => {
+            lay_line(&mut out[0..81], sequence, what, first, second, third);
+            Written::Done
+        }
+    }
+}

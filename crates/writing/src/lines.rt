@@ -1,0 +1,277 @@
+// The fields of each kind of record, laid into a line from the left, blanks included: nothing of what the line held is left.
+use crate::laying::lay_angle;
+use crate::laying::lay_blank;
+use crate::laying::lay_count;
+use crate::laying::lay_four;
+use crate::laying::lay_height;
+use crate::laying::lay_media;
+use crate::laying::lay_number;
+use crate::laying::lay_one;
+use crate::laying::lay_text;
+use crate::laying::lay_three;
+use crate::laying::lay_two;
+use crate::records::count_of;
+use columns::Four;
+use columns::Height;
+use columns::Way;
+use kinds::Antenna;
+use kinds::Comment;
+use kinds::Continuation;
+use kinds::Factor;
+use kinds::Heights;
+use kinds::Instrument;
+use kinds::Job;
+use kinds::Local;
+use kinds::Measurement;
+use kinds::Network;
+use kinds::Occupation;
+use kinds::Point;
+use kinds::Project;
+use kinds::Record;
+use kinds::Sequence;
+use kinds::Title;
+use kinds::Two;
+ghost use mathlib.Core.Path.{_≡_};
+ghost use mathlib.Core.Bool.{true};
+ghost use mathlib.Core.List.{_∷_, []};
+ghost use lib.ListN.{length, take, drop};
+ghost use Rattle.rules.specs.Items.{fits, angle, latitude, longitude, media, num};
+ghost use Rattle.rules.specs.Fields.{isOk, entriesOf, formed};
+ghost use Rattle.rules.specs.Records.{judgeGiven, lineOf};
+ghost use Rattle.rules.specs.Layouts.{project, occupation, measurement, receiver, aerial, point, heights};
+ghost use Rattle.rules.specs.Chapter4.{chapter4};
+ghost use Rattle.columns.specs.Types.{mediaValue, fourOf};
+ghost use Rattle.kinds.specs.Values.{sequenceValue, kindNumber, codeOf, meaningOf, valuesOf};
+ghost use Rattle.kinds.specs.declared.Record.the-variants as R;
+ghost use Rattle.writing.specs.Laying.{lay, layFields, layoutOf};
+
+fn lay_project(line: &mut [u8], p: Project, a: &[u8], b: &[u8])
+    ensures { λ _. ⌜ now (line .exit) ≡ layFields project (valuesOf (R.Project p) (now (a .entry)) (now (b .entry)) []) (now (line .entry)) ⌝ }
+{
+    lay_number(line, Project::BEGAN, Project::BEGAN_WIDTH, p.began);
+    lay_number(line, Project::ENDED, Project::ENDED_WIDTH, p.ended);
+    lay_three(line, Project::INITIALS, p.initials);
+    lay_text(line, Project::NAME, a);
+    lay_three(line, Project::SECOND_INITIALS, p.second);
+    lay_text(line, Project::SECOND_NAME, b);
+    lay_blank(line, Project::SPACER, Project::SPACER_WIDTH);
+    lay_one(line, Project::METHOD, b'4');
+    lay_two(line, Project::STATE, p.state);
+    lay_blank(line, Project::END, Project::END_WIDTH);
+}
+
+fn lay_occupation(line: &mut [u8], o: Occupation)
+    requires { ⌜ fits media (mediaValue (o .media)) ≡ true ⌝ }
+    ensures { λ _. ⌜ now (line .exit) ≡ layFields occupation (valuesOf (R.Occupation o) [] [] []) (now (line .entry)) ⌝ }
+{
+    lay_number(
+        line,
+        Occupation::STATION,
+        Occupation::STATION_WIDTH,
+        o.station,
+    );
+    lay_media(line, Occupation::MEDIA, o.media);
+    lay_three(line, Occupation::INITIALS, o.initials);
+    lay_number(
+        line,
+        Occupation::INSTRUMENT,
+        Occupation::INSTRUMENT_WIDTH,
+        o.instrument,
+    );
+    lay_blank(line, Occupation::SPACER, Occupation::SPACER_WIDTH);
+    lay_number(
+        line,
+        Occupation::ANTENNA,
+        Occupation::ANTENNA_WIDTH,
+        o.antenna,
+    );
+    lay_blank(line, Occupation::END, Occupation::END_WIDTH);
+}
+
+fn lay_measurement(line: &mut [u8], m: Measurement)
+    ensures { λ _. ⌜ now (line .exit) ≡ layFields measurement (valuesOf (R.Measurement m) [] [] []) (now (line .entry)) ⌝ }
+{
+    lay_number(
+        line,
+        Measurement::STATION,
+        Measurement::STATION_WIDTH,
+        m.station,
+    );
+    lay_number(line, Measurement::DATE, Measurement::DATE_WIDTH, m.date);
+    lay_number(line, Measurement::TIME, Measurement::TIME_WIDTH, m.time);
+    lay_blank(line, Measurement::SPACER, Measurement::SPACER_WIDTH);
+    lay_height(
+        line,
+        Measurement::HEIGHT,
+        Measurement::HEIGHT_WIDTH,
+        Height::Mm(m.height),
+    );
+    lay_blank(line, Measurement::END, Measurement::END_WIDTH);
+}
+
+fn lay_instrument(line: &mut [u8], i: Instrument, a: &[u8], b: &[u8], c: &[u8])
+    ensures { λ _. ⌜ now (line .exit) ≡ layFields receiver (valuesOf (R.Instrument i) (now (a .entry)) (now (b .entry)) (now (c .entry))) (now (line .entry)) ⌝ }
+{
+    lay_number(
+        line,
+        Instrument::INSTRUMENT,
+        Instrument::INSTRUMENT_WIDTH,
+        i.instrument,
+    );
+    lay_number(
+        line,
+        Instrument::EQUIPMENT,
+        Instrument::EQUIPMENT_WIDTH,
+        i.equipment,
+    );
+    lay_blank(line, Instrument::SPACER, Instrument::SPACER_WIDTH);
+    lay_text(line, Instrument::MANUFACTURER, a);
+    lay_blank(
+        line,
+        Instrument::SECOND_SPACER,
+        Instrument::SECOND_SPACER_WIDTH,
+    );
+    lay_text(line, Instrument::MODEL, b);
+    lay_text(line, Instrument::SERIAL, c);
+}
+
+fn lay_antenna(line: &mut [u8], n: Antenna, a: &[u8], b: &[u8])
+    ensures { λ _. ⌜ now (line .exit) ≡ layFields aerial (valuesOf (R.Antenna n) (now (a .entry)) (now (b .entry)) []) (now (line .entry)) ⌝ }
+{
+    lay_number(line, Antenna::ANTENNA, Antenna::ANTENNA_WIDTH, n.antenna);
+    lay_blank(line, Antenna::SPACER, Antenna::SPACER_WIDTH);
+    lay_text(line, Antenna::CODE, a);
+    lay_four(line, Antenna::RADOME, n.radome);
+    lay_blank(line, Antenna::SECOND_SPACER, Antenna::SECOND_SPACER_WIDTH);
+    lay_text(line, Antenna::SERIAL, b);
+    lay_blank(line, Antenna::END, Antenna::END_WIDTH);
+}
+
+fn lay_point(line: &mut [u8], p: Point, a: &[u8])
+    requires { ⌜ (fits (angle latitude) (num (p .latitude)) ≡ true) × (fits (angle longitude) (num (p .longitude)) ≡ true) ⌝ }
+    ensures { λ _. ⌜ now (line .exit) ≡ layFields point (valuesOf (R.Point p) (now (a .entry)) [] []) (now (line .entry)) ⌝ }
+{
+    lay_number(line, Point::STATION, Point::STATION_WIDTH, p.station);
+    lay_text(line, Point::NAME, a);
+    lay_angle(
+        line,
+        Point::LATITUDE,
+        Point::LATITUDE_WIDTH + Point::LATITUDE_LETTER_WIDTH,
+        p.latitude,
+        Way::Latitude,
+    );
+    lay_angle(
+        line,
+        Point::LONGITUDE,
+        Point::LONGITUDE_WIDTH + Point::LONGITUDE_LETTER_WIDTH,
+        p.longitude,
+        Way::Longitude,
+    );
+    lay_blank(line, Point::SPACER, Point::SPACER_WIDTH);
+    lay_two(line, Point::STATE, p.state);
+    lay_blank(line, Point::END, Point::END_WIDTH);
+}
+
+// Columns 11-35 of a record of heights.
+fn lay_orthometric(line: &mut [u8], h: Heights, a: &[u8])
+    ensures { λ _. ⌜ now (line .exit) ≡ layFields (take 8 heights) (valuesOf (R.Heights h) (now (a .entry)) [] []) (now (line .entry)) ⌝ }
+{
+    let orthometric = h.orthometric;
+    lay_number(line, Heights::STATION, Heights::STATION_WIDTH, h.station);
+    lay_blank(line, Heights::SPACER, Heights::SPACER_WIDTH);
+    lay_height(
+        line,
+        Heights::ORTHOMETRIC,
+        Heights::ORTHOMETRIC_WIDTH,
+        orthometric,
+    );
+    lay_one(line, Heights::CODE, h.code);
+    lay_two(line, Heights::CLASS, h.class);
+    lay_one(line, Heights::INDICATOR, h.indicator);
+    lay_two(line, Heights::DATUM, h.datum);
+    lay_text(line, Heights::ORGANIZATION, a);
+}
+
+// Columns 36-80.
+fn lay_other_heights(line: &mut [u8], h: Heights, b: &[u8])
+    ensures { λ _. ⌜ now (line .exit) ≡ layFields (drop 8 heights) (drop 8 (valuesOf (R.Heights h) [] (now (b .entry)) [])) (now (line .entry)) ⌝ }
+{
+    let geoid = h.geoid;
+    let ellipsoid = h.ellipsoid;
+    lay_height(line, Heights::GEOID, Heights::GEOID_WIDTH, geoid);
+    lay_one(line, Heights::GEOID_CODE, h.geoidcode);
+    lay_blank(line, Heights::SECOND_SPACER, Heights::SECOND_SPACER_WIDTH);
+    lay_height(
+        line,
+        Heights::ELLIPSOID,
+        Heights::ELLIPSOID_WIDTH,
+        ellipsoid,
+    );
+    lay_one(line, Heights::ELLIPSOID_CODE, h.ellipsoidcode);
+    lay_blank(line, Heights::THIRD_SPACER, Heights::THIRD_SPACER_WIDTH);
+    lay_one(line, Heights::ELLIPSOID_DATUM, h.ellipsoiddatum);
+    lay_text(line, Heights::COMMENT, b);
+}
+
+fn lay_heights(line: &mut [u8], h: Heights, a: &[u8], b: &[u8])
+    ensures { λ _. ⌜ now (line .exit) ≡ layFields heights (valuesOf (R.Heights h) (now (a .entry)) (now (b .entry)) []) (now (line .entry)) ⌝ }
+{
+    lay_orthometric(line, h, a);
+    lay_other_heights(line, h, b);
+}
+
+// Columns 11-80.
+fn lay_values(line: &mut [u8], what: Record, a: &[u8], b: &[u8], c: &[u8])
+    requires { ⌜ formed (entriesOf (layoutOf (kindNumber what)) (valuesOf what (now a) (now b) (now c))) ≡ true ⌝ }
+    ensures { λ _. ⌜ now (line .exit) ≡ layFields (layoutOf (kindNumber what)) (valuesOf what (now (a .entry)) (now (b .entry)) (now (c .entry))) (now (line .entry)) ⌝ }
+{
+    match what {
+        Record::Job(_) => lay_text(line, Job::TEXT, a),
+        Record::Title(_) => lay_text(line, Title::TITLE, a),
+        Record::Continuation(_) => lay_text(line, Continuation::TITLE, a),
+        Record::Project(p) => lay_project(line, p, a, b),
+        Record::Occupation(o) => lay_occupation(line, o),
+        Record::Comment(_) => lay_text(line, Comment::COMMENT, a),
+        Record::Measurement(m) => lay_measurement(line, m),
+        Record::Instrument(i) => lay_instrument(line, i, a, b, c),
+        Record::Antenna(n) => lay_antenna(line, n, a, b),
+        Record::Point(p) => lay_point(line, p, a),
+        Record::Heights(h) => lay_heights(line, h, a, b),
+        Record::Network(_) => lay_text(line, Network::TEXT, a),
+        Record::Local(_) => lay_text(line, Local::TEXT, a),
+        Record::Factor(_) => lay_text(line, Factor::TEXT, a),
+    }
+}
+
+// Columns 7-10.
+fn code_of(what: Record) -> Four
+    ensures { λ r. ⌜ fourOf r ≡ codeOf what ⌝ }
+{
+    match what {
+        Record::Job(k) => Four(b'*', k.first, k.second, b'*'),
+        Record::Title(_) => Four(b'*', b'1', b'0', b'*'),
+        Record::Continuation(_) => Four(b'*', b'1', b'1', b'*'),
+        Record::Project(_) => Four(b'*', b'1', b'2', b'*'),
+        Record::Occupation(_) => Four(b'*', b'2', b'5', b'*'),
+        Record::Comment(_) => Four(b'*', b'2', b'6', b'*'),
+        Record::Measurement(_) => Four(b'*', b'2', b'7', b'*'),
+        Record::Instrument(_) => Four(b'*', b'7', b'0', b'*'),
+        Record::Antenna(_) => Four(b'*', b'7', b'2', b'*'),
+        Record::Point(_) => Four(b'*', b'8', b'0', b'*'),
+        Record::Heights(_) => Four(b'*', b'8', b'6', b'*'),
+        Record::Network(_) => Four(b'*', b'9', b'1', b'*'),
+        Record::Local(_) => Four(b'*', b'9', b'2', b'*'),
+        Record::Factor(_) => Four(b'*', b'9', b'3', b'*'),
+    }
+}
+
+// A line of 81 bytes, of values that were judged good.
+pub(crate) fn lay_line(line: &mut [u8], s: Sequence, what: Record, a: &[u8], b: &[u8], c: &[u8])
+    requires { ⌜ (length (now line) ≡ 81) × (isOk (judgeGiven chapter4 (kindNumber what) (sequenceValue s) (meaningOf what (now a) (now b) (now c))) ≡ true) ⌝ }
+    ensures { λ _. ⌜ now (line .exit) ≡ lineOf chapter4 (sequenceValue s) (meaningOf what (now (a .entry)) (now (b .entry)) (now (c .entry))) ⌝ }
+{
+    lay_count(line, Sequence::NUMBER, Sequence::NUMBER_WIDTH, count_of(s));
+    lay_four(line, 7, code_of(what));
+    lay_values(line, what, a, b, c);
+    lay_one(line, 81, 10);
+}

@@ -1,0 +1,337 @@
+// The values of each kind of record, judged from the left.
+use crate::judging::judge_angle;
+use crate::judging::judge_count;
+use crate::judging::judge_four;
+use crate::judging::judge_height;
+use crate::judging::judge_later;
+use crate::judging::judge_media;
+use crate::judging::judge_month;
+use crate::judging::judge_one;
+use crate::judging::judge_pair;
+use crate::judging::judge_test;
+use crate::judging::judge_text;
+use crate::judging::judge_three;
+use crate::judging::judge_tied;
+use crate::judging::judge_two;
+use columns::Count;
+use columns::Height;
+use columns::Set;
+use columns::Way;
+use columns::numbers::count_fits;
+use kinds::Antenna;
+use kinds::Comment;
+use kinds::Continuation;
+use kinds::Factor;
+use kinds::Heights;
+use kinds::Instrument;
+use kinds::Job;
+use kinds::Judged;
+use kinds::Local;
+use kinds::Measurement;
+use kinds::Network;
+use kinds::Occupation;
+use kinds::Point;
+use kinds::Project;
+use kinds::Record;
+use kinds::Sequence;
+use kinds::Title;
+ghost use mathlib.Core.Path.{_≡_};
+ghost use mathlib.Core.List.{[]};
+ghost use Rattle.rules.specs.Fields.{anything, entriesOf, judge};
+ghost use Rattle.rules.specs.Records.{judgeGiven};
+ghost use Rattle.rules.specs.Layouts.{project, occupation, measurement, receiver, aerial, point, heights};
+ghost use Rattle.rules.specs.Chapter4.{chapter4};
+ghost use Rattle.columns.specs.Types.{countValue};
+ghost use Rattle.kinds.specs.Values.{sequenceValue, kindNumber, meaningOf, valuesOf, judgedOf};
+ghost use Rattle.kinds.specs.declared.Record.the-variants as R;
+ghost use Rattle.writing.specs.Judging.{afterOf, judgeRecord};
+
+fn judge_project(j: Judged, p: Project, a: &[u8], b: &[u8]) -> Judged
+    ensures { λ r. ⌜ r ≡ afterOf j (judge anything (entriesOf project (valuesOf (R.Project p) (now (a .entry)) (now (b .entry)) []))) ⌝ }
+{
+    let j = judge_month(j, p.began, Project::BEGAN);
+    let j = judge_later(j, p.began, p.ended, Project::ENDED);
+    let j = judge_three(j, p.initials, Set::LetterOrSpace, Project::INITIALS);
+    let j = judge_text(j, a, Project::NAME_WIDTH, Set::Name, Project::NAME);
+    let j = judge_three(j, p.second, Set::LetterOrSpace, Project::SECOND_INITIALS);
+    let j = judge_text(
+        j,
+        b,
+        Project::SECOND_NAME_WIDTH,
+        Set::Name,
+        Project::SECOND_NAME,
+    );
+    judge_two(j, p.state, Set::Letter, Project::STATE)
+}
+
+fn judge_occupation(j: Judged, o: Occupation) -> Judged
+    ensures { λ r. ⌜ r ≡ afterOf j (judge anything (entriesOf occupation (valuesOf (R.Occupation o) [] [] []))) ⌝ }
+{
+    let j = judge_count(
+        j,
+        o.station,
+        Occupation::STATION_WIDTH,
+        1,
+        9999,
+        Occupation::STATION,
+    );
+    let j = judge_media(j, o.media, Occupation::MEDIA);
+    let j = judge_three(j, o.initials, Set::LetterOrSpace, Occupation::INITIALS);
+    let j = judge_count(
+        j,
+        o.instrument,
+        Occupation::INSTRUMENT_WIDTH,
+        1,
+        999,
+        Occupation::INSTRUMENT,
+    );
+    judge_count(
+        j,
+        o.antenna,
+        Occupation::ANTENNA_WIDTH,
+        1,
+        999,
+        Occupation::ANTENNA,
+    )
+}
+
+fn judge_measurement(j: Judged, m: Measurement) -> Judged
+    ensures { λ r. ⌜ r ≡ afterOf j (judge anything (entriesOf measurement (valuesOf (R.Measurement m) [] [] []))) ⌝ }
+{
+    let j = judge_count(
+        j,
+        m.station,
+        Measurement::STATION_WIDTH,
+        1,
+        9999,
+        Measurement::STATION,
+    );
+    let j = judge_count(
+        j,
+        m.date,
+        Measurement::DATE_WIDTH,
+        0,
+        999_999,
+        Measurement::DATE,
+    );
+    let j = judge_count(
+        j,
+        m.time,
+        Measurement::TIME_WIDTH,
+        0,
+        9999,
+        Measurement::TIME,
+    );
+    judge_height(
+        j,
+        Height::Mm(m.height),
+        Measurement::HEIGHT_WIDTH,
+        false,
+        Measurement::HEIGHT,
+    )
+}
+
+fn judge_instrument(j: Judged, i: Instrument, a: &[u8], b: &[u8], c: &[u8]) -> Judged
+    ensures { λ r. ⌜ r ≡ afterOf j (judge anything (entriesOf receiver (valuesOf (R.Instrument i) (now (a .entry)) (now (b .entry)) (now (c .entry))))) ⌝ }
+{
+    let j = judge_count(
+        j,
+        i.instrument,
+        Instrument::INSTRUMENT_WIDTH,
+        1,
+        999,
+        Instrument::INSTRUMENT,
+    );
+    let j = judge_count(
+        j,
+        i.equipment,
+        Instrument::EQUIPMENT_WIDTH,
+        1,
+        999,
+        Instrument::EQUIPMENT,
+    );
+    let j = judge_text(
+        j,
+        a,
+        Instrument::MANUFACTURER_WIDTH,
+        Set::Printable,
+        Instrument::MANUFACTURER,
+    );
+    let j = judge_text(
+        j,
+        b,
+        Instrument::MODEL_WIDTH,
+        Set::Printable,
+        Instrument::MODEL,
+    );
+    judge_text(
+        j,
+        c,
+        Instrument::SERIAL_WIDTH,
+        Set::Printable,
+        Instrument::SERIAL,
+    )
+}
+
+fn judge_antenna(j: Judged, n: Antenna, a: &[u8], b: &[u8]) -> Judged
+    ensures { λ r. ⌜ r ≡ afterOf j (judge anything (entriesOf aerial (valuesOf (R.Antenna n) (now (a .entry)) (now (b .entry)) []))) ⌝ }
+{
+    let j = judge_count(
+        j,
+        n.antenna,
+        Antenna::ANTENNA_WIDTH,
+        1,
+        999,
+        Antenna::ANTENNA,
+    );
+    let j = judge_text(j, a, Antenna::CODE_WIDTH, Set::Printable, Antenna::CODE);
+    let j = judge_four(j, n.radome, Set::Letter, Antenna::RADOME);
+    judge_text(j, b, Antenna::SERIAL_WIDTH, Set::Printable, Antenna::SERIAL)
+}
+
+fn judge_point(j: Judged, p: Point, a: &[u8]) -> Judged
+    ensures { λ r. ⌜ r ≡ afterOf j (judge anything (entriesOf point (valuesOf (R.Point p) (now (a .entry)) [] []))) ⌝ }
+{
+    let j = judge_count(j, p.station, Point::STATION_WIDTH, 1, 9999, Point::STATION);
+    let j = judge_text(j, a, Point::NAME_WIDTH, Set::Printable, Point::NAME);
+    let j = judge_angle(j, p.latitude, Way::Latitude, Point::LATITUDE);
+    let j = judge_angle(j, p.longitude, Way::Longitude, Point::LONGITUDE);
+    judge_two(j, p.state, Set::Letter, Point::STATE)
+}
+
+// Each code goes with the height before it, and so does the indicator with the orthometric height.
+fn judge_heights(j: Judged, h: Heights, a: &[u8], b: &[u8]) -> Judged
+    ensures { λ r. ⌜ r ≡ afterOf j (judge anything (entriesOf heights (valuesOf (R.Heights h) (now (a .entry)) (now (b .entry)) []))) ⌝ }
+{
+    let orthometric = h.orthometric;
+    let geoid = h.geoid;
+    let ellipsoid = h.ellipsoid;
+    let j = judge_count(
+        j,
+        h.station,
+        Heights::STATION_WIDTH,
+        1,
+        9999,
+        Heights::STATION,
+    );
+    let j = judge_height(
+        j,
+        orthometric,
+        Heights::ORTHOMETRIC_WIDTH,
+        true,
+        Heights::ORTHOMETRIC,
+    );
+    let j = judge_tied(j, orthometric, h.code, Set::LetterOrSpace, Heights::CODE);
+    let j = judge_pair(j, h.class, Set::Digit, Heights::CLASS);
+    let j = judge_tied(
+        j,
+        orthometric,
+        h.indicator,
+        Set::YesNoOrSpace,
+        Heights::INDICATOR,
+    );
+    let j = judge_pair(j, h.datum, Set::LetterOrDigit, Heights::DATUM);
+    let j = judge_text(
+        j,
+        a,
+        Heights::ORGANIZATION_WIDTH,
+        Set::Printable,
+        Heights::ORGANIZATION,
+    );
+    let j = judge_height(j, geoid, Heights::GEOID_WIDTH, true, Heights::GEOID);
+    let j = judge_tied(
+        j,
+        geoid,
+        h.geoidcode,
+        Set::LetterOrDigitOrSpace,
+        Heights::GEOID_CODE,
+    );
+    let j = judge_height(
+        j,
+        ellipsoid,
+        Heights::ELLIPSOID_WIDTH,
+        true,
+        Heights::ELLIPSOID,
+    );
+    let j = judge_tied(
+        j,
+        ellipsoid,
+        h.ellipsoidcode,
+        Set::LetterOrSpace,
+        Heights::ELLIPSOID_CODE,
+    );
+    let j = judge_one(
+        j,
+        h.ellipsoiddatum,
+        Set::LetterOrSpace,
+        Heights::ELLIPSOID_DATUM,
+    );
+    judge_text(
+        j,
+        b,
+        Heights::COMMENT_WIDTH,
+        Set::Printable,
+        Heights::COMMENT,
+    )
+}
+
+// A letter followed by a letter or digit; then the text.
+fn judge_job(j: Judged, k: Job, a: &[u8]) -> Judged
+    ensures { λ r. ⌜ r ≡ afterOf j (judgeRecord (R.Job k) (now (a .entry)) [] []) ⌝ }
+{
+    let letter = (65 <= k.first) & (k.first <= 90);
+    let second = ((65 <= k.second) & (k.second <= 90)) | ((48 <= k.second) & (k.second <= 57));
+    let j = judge_test(j, letter & second, 9, 7);
+    judge_text(j, a, Job::TEXT_WIDTH, Set::Printable, Job::TEXT)
+}
+
+// Columns 7 on, after what was found of the sequence number.
+fn judge_record(j: Judged, what: Record, a: &[u8], b: &[u8], c: &[u8]) -> Judged
+    ensures { λ r. ⌜ r ≡ afterOf j (judgeRecord what (now (a .entry)) (now (b .entry)) (now (c .entry))) ⌝ }
+{
+    match what {
+        Record::Job(k) => judge_job(j, k, a),
+        Record::Title(_) => judge_text(j, a, Title::TITLE_WIDTH, Set::Title, Title::TITLE),
+        Record::Continuation(_) => judge_text(
+            j,
+            a,
+            Continuation::TITLE_WIDTH,
+            Set::Title,
+            Continuation::TITLE,
+        ),
+        Record::Project(p) => judge_project(j, p, a, b),
+        Record::Occupation(o) => judge_occupation(j, o),
+        Record::Comment(_) => judge_text(
+            j,
+            a,
+            Comment::COMMENT_WIDTH,
+            Set::Printable,
+            Comment::COMMENT,
+        ),
+        Record::Measurement(m) => judge_measurement(j, m),
+        Record::Instrument(i) => judge_instrument(j, i, a, b, c),
+        Record::Antenna(n) => judge_antenna(j, n, a, b),
+        Record::Point(p) => judge_point(j, p, a),
+        Record::Heights(h) => judge_heights(j, h, a, b),
+        Record::Network(_) => judge_text(j, a, Network::TEXT_WIDTH, Set::Printable, Network::TEXT),
+        Record::Local(_) => judge_text(j, a, Local::TEXT_WIDTH, Set::Printable, Local::TEXT),
+        Record::Factor(_) => judge_text(j, a, Factor::TEXT_WIDTH, Set::Printable, Factor::TEXT),
+    }
+}
+
+pub(crate) fn count_of(s: Sequence) -> Count
+    ensures { λ r. ⌜ countValue r ≡ sequenceValue s ⌝ }
+{
+    match s {
+        Sequence::Missing => Count::Missing,
+        Sequence::Number(n) => Count::Is(n),
+    }
+}
+
+pub(crate) fn judge_given(s: Sequence, what: Record, a: &[u8], b: &[u8], c: &[u8]) -> Judged
+    ensures { λ r. ⌜ r ≡ judgedOf (judgeGiven chapter4 (kindNumber what) (sequenceValue s) (meaningOf what (now (a .entry)) (now (b .entry)) (now (c .entry)))) ⌝ }
+{
+    let ok = count_fits(count_of(s), Sequence::NUMBER_WIDTH, 1, 999_999, true);
+    let j = judge_test(Judged::Good, ok, 9, Sequence::NUMBER);
+    judge_record(j, what, a, b, c)
+}
