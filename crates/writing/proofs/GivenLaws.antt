@@ -187,6 +187,9 @@ module _ (r : Record) (q : Value) (a b c : List ℕ) (h : isOk (judgeGiven chapt
   unfolding meaningOf
   taken = let t = both (both (sym (write-takes chapter4 (kindNumber r) q (meaningOf r a b c)) ∙ h) .0) in (both (t .0) .0, to≡ (both (t .0) .1), t .1)
 
+  pub given-kind : kindOf (codeOf r) ≡ kindNumber r
+  given-kind = taken .1
+
   -- all of them are formed
   pub given-formed : formed (entriesOf (layoutOf (kindNumber r)) (valuesOf r a b c)) ≡ true
   unfolding meant

@@ -1,7 +1,7 @@
 -- Tests in a row: one law for each way through a function. Assumes nothing.
 use mathlib.Core.Path.{_≡_, refl, sym, ap, _∙_}
 use mathlib.Core.Bool.{Bool, true, false, cond, not, _&&_, _||_}
-use mathlib.Core.List.{List, [], _∷_}
+use mathlib.Core.List.{List, [], _∷_, _++_}
 use Prim.Native.Nat.{ℕ}
 use lib.Dec.{leb, eqb}
 use lib.ListN.{length}
@@ -95,3 +95,8 @@ pub after-chain : (j : Judged) (vs : List Verdict) → after j vs ≡ afterOf j 
 unfolding chain
 after-chain j [] = after-none j
 after-chain j (v ∷ vs) = after-chain (afterOf j v) vs ∙ after-after j v (chain vs)
+
+pub chain-append : (us vs : List Verdict) → chain (us ++ vs) ≡ (chain us ⨾ chain vs)
+unfolding chain
+chain-append [] vs = unfold _⨾_ in refl
+chain-append (u ∷ us) vs = rw (chain-append us vs) (sym (⨾-assoc u (chain us) (chain vs)))

@@ -1,7 +1,7 @@
 -- The values of each kind of record as a row of tests: what is blank, constant or free leaves no test. Assumes nothing.
-use mathlib.Core.Path.{_≡_, refl}
+use mathlib.Core.Path.{_≡_, refl, sym, _∙_}
 use mathlib.Core.Bool.{Bool, true, false, cond}
-use mathlib.Core.List.{List, [], _∷_}
+use mathlib.Core.List.{List, [], _∷_, _++_}
 use Prim.Native.Nat.{ℕ}
 use lib.IntN.{ℤ, pos}
 use Rattle.rules.specs.Tests.{_&_, _≤?_, _=?_, within}
@@ -22,7 +22,8 @@ use Rattle.kinds.specs.declared.Antenna.{Antenna}
 use Rattle.kinds.specs.declared.Point.{Point}
 use Rattle.kinds.specs.declared.Heights.{Heights}
 use Rattle.kinds.specs.Values.{twoText, threeText, valuesOf}
-use Rattle.writing.proofs.JudgeLaws.{chain}
+use Rattle.writing.specs.Judging.{heightEntries, judgeOrthometric, judgeOthers}
+use Rattle.writing.proofs.JudgeLaws.{chain, chain-append}
 
 -- a value of its kind and range
 unfoldable pub form : Item → Value → ℕ → Verdict
@@ -100,22 +101,36 @@ module _ (p : Point) (a : List ℕ) where
   point-chain = refl
 
 module _ (h : Heights) (a b : List ℕ) where
-  unfoldable pub heightsTests : List Verdict
-  heightsTests =
+  unfoldable pub orthometricTests : List Verdict
+  orthometricTests =
       form (number 4 1 9_999 false) (num (pos (h .station))) 11
       ∷ form (height 7 true) (heightValue (h .orthometric)) 17
       ∷ form (wordOf 1 Set.LetterOrSpace) (text (h .code ∷ [])) 24 ∷ tie (h .orthometric) (h .code) 24
       ∷ form (word 2 (orBlank (setOf Set.Digit))) (text (twoText (h .class))) 25
       ∷ form (wordOf 1 Set.YesNoOrSpace) (text (h .indicator ∷ [])) 27 ∷ tie (h .orthometric) (h .indicator) 27
       ∷ form (word 2 (orBlank (setOf Set.LetterOrDigit))) (text (twoText (h .datum))) 28
-      ∷ form (wordOf 6 Set.Printable) (text a) 30
-      ∷ form (height 7 true) (heightValue (h .geoid)) 36
+      ∷ form (wordOf 6 Set.Printable) (text a) 30 ∷ []
+
+  unfoldable pub otherTests : List Verdict
+  otherTests =
+      form (height 7 true) (heightValue (h .geoid)) 36
       ∷ form (wordOf 1 Set.LetterOrDigitOrSpace) (text (h .geoidcode ∷ [])) 43 ∷ tie (h .geoid) (h .geoidcode) 43
       ∷ form (height 7 true) (heightValue (h .ellipsoid)) 46
       ∷ form (wordOf 1 Set.LetterOrSpace) (text (h .ellipsoidcode ∷ [])) 53 ∷ tie (h .ellipsoid) (h .ellipsoidcode) 53
       ∷ form (wordOf 1 Set.LetterOrSpace) (text (h .ellipsoiddatum ∷ [])) 56
       ∷ form (wordOf 24 Set.Printable) (text b) 57 ∷ []
 
-  pub heights-chain : judge anything (entriesOf heights (valuesOf (R.Heights h) a b [])) ≡ chain heightsTests
-  unfolding judge judgeEach entriesOf given agrees agreesWith meets valueAt check _⨾_ fits onGap _=?_ at tied station anyText metres letterOrBlank heights valuesOf chain heightsTests form tie wordOf setOf
-  heights-chain = refl
+  pub orthometric-chain : judgeOrthometric h a ≡ chain orthometricTests
+  unfolding judgeOrthometric heightEntries judgeEach entriesOf given agrees agreesWith meets valueAt check _⨾_ fits onGap _=?_ at tied station anyText metres letterOrBlank heights valuesOf chain orthometricTests form tie wordOf setOf
+  orthometric-chain = refl
+
+  pub other-chain : judgeOthers h b ≡ chain otherTests
+  unfolding judgeOthers heightEntries judgeEach entriesOf given agrees agreesWith meets valueAt check _⨾_ fits onGap _=?_ at tied station anyText metres letterOrBlank heights valuesOf chain otherTests form tie wordOf setOf
+  other-chain = refl
+
+  whole-chain : judge anything (entriesOf heights (valuesOf (R.Heights h) a b [])) ≡ chain (orthometricTests ++ otherTests)
+  unfolding judge judgeEach entriesOf given agrees agreesWith meets valueAt check _⨾_ fits onGap _=?_ at tied station anyText metres letterOrBlank heights valuesOf chain orthometricTests otherTests form tie wordOf setOf
+  whole-chain = refl
+
+  pub heights-judged : judge anything (entriesOf heights (valuesOf (R.Heights h) a b [])) ≡ (judgeOrthometric h a ⨾ judgeOthers h b)
+  heights-judged = whole-chain ∙ chain-append orthometricTests otherTests ∙ sym (rw (orthometric-chain, other-chain))

@@ -78,6 +78,12 @@ pub(crate) fn judge_text(j: Judged, t: &[u8], w: usize, s: Set, column: usize) -
     judge_test(j, (t.len() == w) & good_word(t, s), 9, column)
 }
 
+pub(crate) fn judge_printable(j: Judged, t: &[u8], w: usize, column: usize) -> Judged
+    ensures { λ r. ⌜ r ≡ afterOf j (check (fits (word w (each (setOf Set.Printable))) (text (now (t .entry)))) 9 column) ⌝ }
+{
+    judge_text(j, t, w, Set::Printable, column)
+}
+
 pub(crate) fn judge_one(j: Judged, t: u8, s: Set, column: usize) -> Judged
     ensures { λ r. ⌜ r ≡ afterOf j (check (fits (word 1 (each (setOf s))) (text (t ∷ []))) 9 column) ⌝ }
 {

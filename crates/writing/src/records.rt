@@ -8,6 +8,7 @@ use crate::judging::judge_media;
 use crate::judging::judge_month;
 use crate::judging::judge_one;
 use crate::judging::judge_pair;
+use crate::judging::judge_printable;
 use crate::judging::judge_test;
 use crate::judging::judge_text;
 use crate::judging::judge_three;
@@ -44,7 +45,7 @@ ghost use Rattle.rules.specs.Chapter4.{chapter4};
 ghost use Rattle.columns.specs.Types.{countValue};
 ghost use Rattle.kinds.specs.Values.{sequenceValue, kindNumber, meaningOf, valuesOf, judgedOf};
 ghost use Rattle.kinds.specs.declared.Record.the-variants as R;
-ghost use Rattle.writing.specs.Judging.{afterOf, judgeRecord};
+ghost use Rattle.writing.specs.Judging.{afterOf, judgeRecord, judgeOrthometric, judgeOthers};
 
 fn judge_project(j: Judged, p: Project, a: &[u8], b: &[u8]) -> Judged
     ensures { λ r. ⌜ r ≡ afterOf j (judge anything (entriesOf project (valuesOf (R.Project p) (now (a .entry)) (now (b .entry)) []))) ⌝ }
@@ -150,27 +151,14 @@ fn judge_instrument(j: Judged, i: Instrument, a: &[u8], b: &[u8], c: &[u8]) -> J
         999,
         Instrument::EQUIPMENT,
     );
-    let j = judge_text(
+    let j = judge_printable(
         j,
         a,
         Instrument::MANUFACTURER_WIDTH,
-        Set::Printable,
         Instrument::MANUFACTURER,
     );
-    let j = judge_text(
-        j,
-        b,
-        Instrument::MODEL_WIDTH,
-        Set::Printable,
-        Instrument::MODEL,
-    );
-    judge_text(
-        j,
-        c,
-        Instrument::SERIAL_WIDTH,
-        Set::Printable,
-        Instrument::SERIAL,
-    )
+    let j = judge_printable(j, b, Instrument::MODEL_WIDTH, Instrument::MODEL);
+    judge_printable(j, c, Instrument::SERIAL_WIDTH, Instrument::SERIAL)
 }
 
 fn judge_antenna(j: Judged, n: Antenna, a: &[u8], b: &[u8]) -> Judged
@@ -184,28 +172,26 @@ fn judge_antenna(j: Judged, n: Antenna, a: &[u8], b: &[u8]) -> Judged
         999,
         Antenna::ANTENNA,
     );
-    let j = judge_text(j, a, Antenna::CODE_WIDTH, Set::Printable, Antenna::CODE);
+    let j = judge_printable(j, a, Antenna::CODE_WIDTH, Antenna::CODE);
     let j = judge_four(j, n.radome, Set::Letter, Antenna::RADOME);
-    judge_text(j, b, Antenna::SERIAL_WIDTH, Set::Printable, Antenna::SERIAL)
+    judge_printable(j, b, Antenna::SERIAL_WIDTH, Antenna::SERIAL)
 }
 
 fn judge_point(j: Judged, p: Point, a: &[u8]) -> Judged
     ensures { λ r. ⌜ r ≡ afterOf j (judge anything (entriesOf point (valuesOf (R.Point p) (now (a .entry)) [] []))) ⌝ }
 {
     let j = judge_count(j, p.station, Point::STATION_WIDTH, 1, 9999, Point::STATION);
-    let j = judge_text(j, a, Point::NAME_WIDTH, Set::Printable, Point::NAME);
+    let j = judge_printable(j, a, Point::NAME_WIDTH, Point::NAME);
     let j = judge_angle(j, p.latitude, Way::Latitude, Point::LATITUDE);
     let j = judge_angle(j, p.longitude, Way::Longitude, Point::LONGITUDE);
     judge_two(j, p.state, Set::Letter, Point::STATE)
 }
 
-// Each code goes with the height before it, and so does the indicator with the orthometric height.
-fn judge_heights(j: Judged, h: Heights, a: &[u8], b: &[u8]) -> Judged
-    ensures { λ r. ⌜ r ≡ afterOf j (judge anything (entriesOf heights (valuesOf (R.Heights h) (now (a .entry)) (now (b .entry)) []))) ⌝ }
+// Columns 11-35 of a record of heights. The code and the indicator go with the orthometric height.
+fn judge_orthometric(j: Judged, h: Heights, a: &[u8]) -> Judged
+    ensures { λ r. ⌜ r ≡ afterOf j (judgeOrthometric h (now (a .entry))) ⌝ }
 {
-    let orthometric = h.orthometric;
-    let geoid = h.geoid;
-    let ellipsoid = h.ellipsoid;
+    let ortho = h.orthometric;
     let j = judge_count(
         j,
         h.station,
@@ -216,28 +202,24 @@ fn judge_heights(j: Judged, h: Heights, a: &[u8], b: &[u8]) -> Judged
     );
     let j = judge_height(
         j,
-        orthometric,
+        ortho,
         Heights::ORTHOMETRIC_WIDTH,
         true,
         Heights::ORTHOMETRIC,
     );
-    let j = judge_tied(j, orthometric, h.code, Set::LetterOrSpace, Heights::CODE);
+    let j = judge_tied(j, ortho, h.code, Set::LetterOrSpace, Heights::CODE);
     let j = judge_pair(j, h.class, Set::Digit, Heights::CLASS);
-    let j = judge_tied(
-        j,
-        orthometric,
-        h.indicator,
-        Set::YesNoOrSpace,
-        Heights::INDICATOR,
-    );
+    let j = judge_tied(j, ortho, h.indicator, Set::YesNoOrSpace, Heights::INDICATOR);
     let j = judge_pair(j, h.datum, Set::LetterOrDigit, Heights::DATUM);
-    let j = judge_text(
-        j,
-        a,
-        Heights::ORGANIZATION_WIDTH,
-        Set::Printable,
-        Heights::ORGANIZATION,
-    );
+    judge_printable(j, a, Heights::ORGANIZATION_WIDTH, Heights::ORGANIZATION)
+}
+
+// Columns 36-80: each code goes with the height before it.
+fn judge_other_heights(j: Judged, h: Heights, b: &[u8]) -> Judged
+    ensures { λ r. ⌜ r ≡ afterOf j (judgeOthers h (now (b .entry))) ⌝ }
+{
+    let geoid = h.geoid;
+    let height = h.ellipsoid;
     let j = judge_height(j, geoid, Heights::GEOID_WIDTH, true, Heights::GEOID);
     let j = judge_tied(
         j,
@@ -248,14 +230,14 @@ fn judge_heights(j: Judged, h: Heights, a: &[u8], b: &[u8]) -> Judged
     );
     let j = judge_height(
         j,
-        ellipsoid,
+        height,
         Heights::ELLIPSOID_WIDTH,
         true,
         Heights::ELLIPSOID,
     );
     let j = judge_tied(
         j,
-        ellipsoid,
+        height,
         h.ellipsoidcode,
         Set::LetterOrSpace,
         Heights::ELLIPSOID_CODE,
@@ -266,13 +248,14 @@ fn judge_heights(j: Judged, h: Heights, a: &[u8], b: &[u8]) -> Judged
         Set::LetterOrSpace,
         Heights::ELLIPSOID_DATUM,
     );
-    judge_text(
-        j,
-        b,
-        Heights::COMMENT_WIDTH,
-        Set::Printable,
-        Heights::COMMENT,
-    )
+    judge_printable(j, b, Heights::COMMENT_WIDTH, Heights::COMMENT)
+}
+
+fn judge_heights(j: Judged, h: Heights, a: &[u8], b: &[u8]) -> Judged
+    ensures { λ r. ⌜ r ≡ afterOf j (judge anything (entriesOf heights (valuesOf (R.Heights h) (now (a .entry)) (now (b .entry)) []))) ⌝ }
+{
+    let j = judge_orthometric(j, h, a);
+    judge_other_heights(j, h, b)
 }
 
 // A letter followed by a letter or digit; then the text.
@@ -282,7 +265,7 @@ fn judge_job(j: Judged, k: Job, a: &[u8]) -> Judged
     let letter = (65 <= k.first) & (k.first <= 90);
     let second = ((65 <= k.second) & (k.second <= 90)) | ((48 <= k.second) & (k.second <= 57));
     let j = judge_test(j, letter & second, 9, 7);
-    judge_text(j, a, Job::TEXT_WIDTH, Set::Printable, Job::TEXT)
+    judge_printable(j, a, Job::TEXT_WIDTH, Job::TEXT)
 }
 
 // Columns 7 on, after what was found of the sequence number.
@@ -313,9 +296,9 @@ fn judge_record(j: Judged, what: Record, a: &[u8], b: &[u8], c: &[u8]) -> Judged
         Record::Antenna(n) => judge_antenna(j, n, a, b),
         Record::Point(p) => judge_point(j, p, a),
         Record::Heights(h) => judge_heights(j, h, a, b),
-        Record::Network(_) => judge_text(j, a, Network::TEXT_WIDTH, Set::Printable, Network::TEXT),
-        Record::Local(_) => judge_text(j, a, Local::TEXT_WIDTH, Set::Printable, Local::TEXT),
-        Record::Factor(_) => judge_text(j, a, Factor::TEXT_WIDTH, Set::Printable, Factor::TEXT),
+        Record::Network(_) => judge_printable(j, a, Network::TEXT_WIDTH, Network::TEXT),
+        Record::Local(_) => judge_printable(j, a, Local::TEXT_WIDTH, Local::TEXT),
+        Record::Factor(_) => judge_printable(j, a, Factor::TEXT_WIDTH, Factor::TEXT),
     }
 }
 

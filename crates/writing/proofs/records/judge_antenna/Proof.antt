@@ -11,7 +11,7 @@ returns : tie.Need-returns
 unfolding antennaTests form tie wordOf wayOf heightValue
 returns c =
     let a = c .before .before .before .before .before .before .args in
-    rw (c .judge-text2 .ensures, c .before .judge-four .ensures, c .before .before .judge-text .ensures, c .before .before .before .judge-count .ensures)
+    rw (c .judge-printable2 .ensures, c .before .judge-four .ensures, c .before .before .judge-printable .ensures, c .before .before .before .judge-count .ensures)
     (after-chain (a .j) (antennaTests (a .n) (a .a .now) (a .b .now)) ∙ ap (afterOf (a .j)) (sym (antenna-chain (a .n) (a .a .now) (a .b .now))))
 
 pub judge-antenna-spec : {M : Type 1} → statement M

@@ -11,7 +11,7 @@ returns : tie.Need-returns
 unfolding instrumentTests form tie wordOf wayOf heightValue
 returns c =
     let a = c .before .before .before .before .before .before .before .before .args in
-    rw (c .judge-text3 .ensures, c .before .judge-text2 .ensures, c .before .before .judge-text .ensures, c .before .before .before .judge-count2 .ensures, c .before .before .before .before .judge-count .ensures)
+    rw (c .judge-printable3 .ensures, c .before .judge-printable2 .ensures, c .before .before .judge-printable .ensures, c .before .before .before .judge-count2 .ensures, c .before .before .before .before .judge-count .ensures)
     (after-chain (a .j) (instrumentTests (a .i) (a .a .now) (a .b .now) (a .c .now)) ∙ ap (afterOf (a .j)) (sym (instrument-chain (a .i) (a .a .now) (a .b .now) (a .c .now))))
 
 pub judge-instrument-spec : {M : Type 1} → statement M

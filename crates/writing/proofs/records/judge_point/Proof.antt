@@ -18,7 +18,7 @@ returns c =
     let a = c .before .before .before .before .before .before .before .before .args in
     let longitude-back : toZ w64 (ofZ w64 (a .p .longitude)) ≡ a .p .longitude = search needs in
     let latitude-back : toZ w64 (ofZ w64 (a .p .latitude)) ≡ a .p .latitude = search needs in
-    rw (c .judge-two .ensures, c .before .judge-angle2 .ensures ∙ ap (λ z. afterOf (c .before .before .before .judge-angle .result) (check (fits (angle longitude) (num z)) 9 57)) longitude-back, c .before .before .before .judge-angle .ensures ∙ ap (λ z. afterOf (c .before .before .before .before .before .judge-text .result) (check (fits (angle latitude) (num z)) 9 45)) latitude-back, c .before .before .before .before .before .judge-text .ensures, c .before .before .before .before .before .before .judge-count .ensures)
+    rw (c .judge-two .ensures, c .before .judge-angle2 .ensures ∙ ap (λ z. afterOf (c .before .before .before .judge-angle .result) (check (fits (angle longitude) (num z)) 9 57)) longitude-back, c .before .before .before .judge-angle .ensures ∙ ap (λ z. afterOf (c .before .before .before .before .before .judge-printable .result) (check (fits (angle latitude) (num z)) 9 45)) latitude-back, c .before .before .before .before .before .judge-printable .ensures, c .before .before .before .before .before .before .judge-count .ensures)
     (after-chain (a .j) (pointTests (a .p) (a .a .now)) ∙ ap (afterOf (a .j)) (sym (point-chain (a .p) (a .a .now))))
 
 pub judge-point-spec : {M : Type 1} → statement M
