@@ -1,3 +1,4 @@
 -- The definitions that the promises of the parts cite beside those of `rules` and `kinds`.
 pub mod Judging
 pub mod Laying
+pub mod Styling

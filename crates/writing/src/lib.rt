@@ -10,6 +10,7 @@ mod judging;
 mod laying;
 mod lines;
 mod records;
+pub mod styles;
 
 use lines::lay_line;
 use records::judge_given;

@@ -1,0 +1,17 @@
+use mathlib.Core.Path.{_≡_, refl, sym, ap, _∙_}
+use borrow.Author.Needs.{needs}
+use mir.Syntax.{w64}
+use mir.ValLaws.{toZ-ofZ}
+use Rattle.rules.specs.Items.{angle, num}
+use Rattle.columns.specs.Types.{wayOf}
+use Rattle.columns.specs.Leaves.{written}
+use Rattle.writing.specs.Styling.{angleStyle}
+use Rattle.writing.proofs.styles.style_angle.Statement.{statement}
+use Rattle.writing.proofs.styles.style_angle.Tie as tie
+
+returns : tie.Need-returns
+unfolding angleStyle
+returns c = let a = c .before .before .before .before .before .before .before .args in c .before .before .put-angle .ensures ∙ ap (λ z. written (angle (wayOf (a .way))) (num z) (a .out .now)) (toZ-ofZ w64 _ (record { sfits = c .before .before .before .read-angle .ok }) ∙ c .before .before .before .read-angle .ensures)
+
+pub style-angle-spec : {M : Type 1} → statement M
+style-angle-spec = tie.close (tie.spec (λ c κs. search needs) (λ c κs. search needs) (λ c. search needs) returns)
