@@ -1,0 +1,139 @@
+//! The plain shelf by hand: check, read, rewrite, print a sheet, make a file.
+
+use shelf::generate;
+use shelf::plain::layout::{FIELDS, KINDS};
+use shelf::plain::{self, Checked, Fault, MISSING, TABLE_WORDS};
+use std::env;
+use std::fs;
+use std::io::{self, Write};
+use std::process::ExitCode;
+
+const USAGE: &str = "\
+plain check FILE
+plain sheet FILE
+plain rewrite IN OUT
+plain read FILE RECORD
+plain generate SEED RECORDS OUT";
+
+fn main() -> ExitCode {
+    let words: Vec<String> = env::args().skip(1).collect();
+    let words: Vec<&str> = words.iter().map(String::as_str).collect();
+    match run(&words) {
+        Ok(good) if good => ExitCode::SUCCESS,
+        Ok(_) => ExitCode::FAILURE,
+        Err(trouble) => {
+            eprintln!("{trouble}");
+            ExitCode::from(2)
+        }
+    }
+}
+
+/// False when the file was refused.
+fn run(words: &[&str]) -> Result<bool, String> {
+    match words {
+        ["check", file] => {
+            let mut table = vec![0; TABLE_WORDS];
+            let checked = plain::check(&load(file)?, &mut table);
+            print_checked(&checked);
+            if checked.fault == Fault::ACCEPTED {
+                print_table(&table);
+            }
+            Ok(checked.fault == Fault::ACCEPTED)
+        }
+        ["sheet", file] => {
+            let sheet = plain::sheet(&load(file)?);
+            io::stdout()
+                .write_all(&sheet)
+                .map_err(|trouble| trouble.to_string())?;
+            Ok(true)
+        }
+        ["rewrite", from, to] => {
+            let file = load(from)?;
+            let mut out = vec![0; file.len()];
+            let checked = plain::rewrite(&file, &mut vec![0; TABLE_WORDS], &mut out);
+            print_checked(&checked);
+            if checked.fault != Fault::ACCEPTED {
+                return Ok(false);
+            }
+            store(to, &out)?;
+            Ok(true)
+        }
+        ["read", file, record] => {
+            let file = load(file)?;
+            let record = number(record)?;
+            match plain::read(&file, record) {
+                Ok(reading) => {
+                    print_reading(&file, record, &reading);
+                    Ok(true)
+                }
+                Err(fault) => {
+                    print_fault(fault);
+                    Ok(false)
+                }
+            }
+        }
+        ["generate", seed, records, to] => {
+            let records = number(records)? as usize;
+            store(to, &generate::accepted(number(seed)?, records))?;
+            Ok(true)
+        }
+        _ => Err(USAGE.to_string()),
+    }
+}
+
+fn number(word: &str) -> Result<u64, String> {
+    word.parse().map_err(|trouble| format!("{word}: {trouble}"))
+}
+
+fn load(name: &str) -> Result<Vec<u8>, String> {
+    fs::read(name).map_err(|trouble| format!("{name}: {trouble}"))
+}
+
+fn store(name: &str, bytes: &[u8]) -> Result<(), String> {
+    fs::write(name, bytes).map_err(|trouble| format!("{name}: {trouble}"))
+}
+
+fn print_fault(fault: Fault) {
+    println!(
+        "fault {} record {} column {}",
+        fault.number, fault.record, fault.column
+    );
+}
+
+fn print_checked(checked: &Checked) {
+    print_fault(checked.fault);
+    if checked.fault == Fault::ACCEPTED {
+        for (code, count) in KINDS.iter().zip(checked.counts) {
+            println!("kind {code} count {count}");
+        }
+    }
+}
+
+/// The words that are not 0.
+fn print_table(table: &[u32]) {
+    for (word, record) in table.iter().enumerate() {
+        if *record != 0 {
+            println!("word {word} record {record}");
+        }
+    }
+}
+
+fn print_reading(file: &[u8], record: u64, reading: &plain::Reading) {
+    println!("kind {} code {}", reading.kind, KINDS[reading.kind]);
+    match reading.sequence {
+        Some(sequence) => println!("sequence {sequence}"),
+        None => println!("sequence missing"),
+    }
+    for value in &reading.values {
+        if *value == MISSING {
+            println!("value missing");
+        } else {
+            println!("value {value}");
+        }
+    }
+    for row in FIELDS[reading.kind] {
+        let (offset, length) = plain::field(file, record, row.first as u64);
+        let held = String::from_utf8_lossy(&file[offset..offset + length]);
+        println!("field {} width {length} [{held}]", row.first);
+    }
+}

@@ -1,0 +1,70 @@
+//! Check, read, write, rewrite and the deposit sheet, as the paper has them.
+//!
+//! From below: `fields` reads and writes one field, `layout` says which
+//! fields a record has, `records` handles one record by itself, `walk`
+//! handles a whole file, `sheet` prints.
+
+pub mod fields;
+pub mod layout;
+mod records;
+mod sheet;
+mod walk;
+
+pub use records::{field, read, write, Reading};
+pub use sheet::sheet;
+pub use walk::{check, rewrite};
+
+/// Words of the station table that belong to the shelf.
+pub const TABLE_WORDS: usize = 12_000;
+/// Word 10,000 + n is for instrument n.
+pub const FIRST_INSTRUMENT_WORD: usize = 10_000;
+/// Word 11,000 + n is for antenna n.
+pub const FIRST_ANTENNA_WORD: usize = 11_000;
+/// The last record a file may have.
+pub const LAST_RECORD: u64 = 99_999;
+/// The printed columns of a record.
+pub const COLUMNS: usize = 80;
+/// A record with its line feed.
+pub const LINE: usize = COLUMNS + 1;
+/// A missing number or height among the values of a record.
+pub const MISSING: i64 = i64::MIN;
+
+/// What a call found: fault number 0 is acceptance.
+#[derive(Clone, Copy, Debug, PartialEq, Eq)]
+pub struct Fault {
+    pub number: u32,
+    pub record: u64,
+    pub column: u64,
+}
+
+impl Fault {
+    pub const ACCEPTED: Fault = Fault {
+        number: 0,
+        record: 0,
+        column: 0,
+    };
+
+    /// Fault 1: a lent table or output is too short.
+    pub const TOO_SHORT: Fault = Fault {
+        number: 1,
+        record: 0,
+        column: 0,
+    };
+}
+
+/// What check and rewrite hand back. The counts are in the order of
+/// [`layout::KINDS`], and all 0 unless the file was accepted.
+#[derive(Clone, Copy, Debug, PartialEq, Eq)]
+pub struct Checked {
+    pub fault: Fault,
+    pub counts: [u32; 14],
+}
+
+impl Checked {
+    fn refused(fault: Fault) -> Checked {
+        Checked {
+            fault,
+            counts: [0; 14],
+        }
+    }
+}

@@ -1,0 +1,467 @@
+//! One record by itself: reading its fields, its house style, writing it.
+
+use super::fields::{self, Malformed};
+use super::layout::{
+    self, Field, Form, CODED_HEIGHT_WIDTH, FIELDS, JOB, KINDS, MONTH_WIDTH, MOST_LONGITUDE,
+};
+use super::{Fault, COLUMNS, LAST_RECORD, LINE, MISSING};
+
+/// A fault of one record: its number and column.
+pub(super) type At = (u32, usize);
+
+/// A record as read: its kind in the order of [`KINDS`], its sequence number
+/// and its values from column 11 on in column order. A job-code record has
+/// the two characters of its code first.
+#[derive(Clone, Debug, PartialEq, Eq)]
+pub struct Reading {
+    pub kind: usize,
+    pub sequence: Option<u32>,
+    pub values: Vec<i64>,
+}
+
+/// What the number in column 11 is compared with. The comparison belongs to
+/// that field, so it is made before the fields to its right are judged.
+#[derive(Clone, Copy)]
+pub(super) enum Compare {
+    Nothing,
+    Same(i64),
+    Above(i64),
+}
+
+/// The 80 columns of a record; `rest` is the file from its first byte on.
+pub(super) fn line(rest: &[u8]) -> Result<&[u8], At> {
+    let columns = &rest[..rest.len().min(COLUMNS)];
+    if !fields::all_printable(columns) {
+        let good = columns
+            .iter()
+            .take_while(|&&byte| fields::Set::Printable.holds(byte));
+        return Err((4, good.count() + 1));
+    }
+    match rest.get(COLUMNS) {
+        None => Err((3, rest.len() + 1)),
+        Some(b'\n') => Ok(columns),
+        Some(_) => Err((5, LINE)),
+    }
+}
+
+/// The kind of a line of 80 columns.
+pub(super) fn kind(line: &[u8]) -> Result<usize, At> {
+    layout::kind_of(&line[6..10]).ok_or((6, 7))
+}
+
+/// Columns `first` to `first + width - 1`, counted from 1.
+pub(super) fn columns(line: &[u8], first: usize, width: usize) -> &[u8] {
+    &line[first - 1..first - 1 + width]
+}
+
+/// Judges columns 1-6 and 11-80 from the left. Puts the values in `values`
+/// and gives the sequence number.
+pub(super) fn judge(
+    line: &[u8],
+    kind: usize,
+    compare: Compare,
+    values: &mut Vec<i64>,
+) -> Result<Option<u32>, At> {
+    values.clear();
+    let sequence = match fields::number(&line[..6]) {
+        Ok(Some(0)) | Err(Malformed) => return Err((9, 1)),
+        Ok(sequence) => sequence,
+    };
+    if kind == JOB {
+        values.extend([i64::from(line[7]), i64::from(line[8])]);
+    }
+    for field in FIELDS[kind] {
+        judge_field(line, field, values)?;
+        if field.first == 11 {
+            let agrees = match compare {
+                Compare::Nothing => true,
+                Compare::Same(number) => values[0] == number,
+                Compare::Above(number) => values[0] > number,
+            };
+            if !agrees {
+                return Err((10, 11));
+            }
+        }
+    }
+    Ok(sequence)
+}
+
+fn judge_field(line: &[u8], field: &Field, values: &mut Vec<i64>) -> Result<(), At> {
+    let malformed = (9, field.first);
+    let disagrees = (10, field.first);
+    let held = columns(line, field.first, field.width);
+    match field.form {
+        Form::Blank => require(fields::is_blank(held), malformed),
+        Form::Four => require(held == b"4", malformed),
+        Form::Number { least, most } => match fields::number(held) {
+            Ok(Some(value)) if (least..=most).contains(&value) => {
+                values.push(i64::from(value));
+                Ok(())
+            }
+            _ => Err(malformed),
+        },
+        Form::Height { optional } => match fields::height(held) {
+            Ok(Some(value)) => {
+                values.push(i64::from(value));
+                Ok(())
+            }
+            Ok(None) if optional => {
+                values.push(MISSING);
+                Ok(())
+            }
+            _ => Err(malformed),
+        },
+        Form::HeightCode { set, height } => {
+            let blank = held == b" ";
+            require(blank || set.holds(held[0]), malformed)?;
+            require(blank == height_is_missing(line, height), disagrees)?;
+            push_characters(held, values);
+            Ok(())
+        }
+        Form::Angle { most } => {
+            values.push(fields::angle(held, most).map_err(|Malformed| malformed)?);
+            Ok(())
+        }
+        Form::AngleLetter { positive, negative } => {
+            if held[0] == negative {
+                // The digits before it gave the last value.
+                let value = values.last_mut().ok_or(malformed)?;
+                if *value != MOST_LONGITUDE {
+                    *value = -*value;
+                }
+                Ok(())
+            } else {
+                require(held[0] == positive, malformed)
+            }
+        }
+        Form::Month | Form::MonthFrom { .. } => {
+            let value = fields::month(held).map_err(|Malformed| malformed)?;
+            if let Form::MonthFrom { from } = field.form {
+                require(!month_is_before(line, field.first, from), disagrees)?;
+            }
+            values.push(i64::from(value));
+            Ok(())
+        }
+        Form::Media => {
+            let (maker, day, year, session) = (held[0], &held[1..4], held[4], held[5]);
+            let day = fields::all_digits(day).map_err(|Malformed| malformed)?;
+            let good = fields::Set::Letter.holds(maker)
+                && (1..=366).contains(&day)
+                && year.is_ascii_digit()
+                && fields::Set::LetterOrDigit.holds(session);
+            require(good, malformed)?;
+            values.push(i64::from(maker));
+            values.push(i64::from(day));
+            values.push(i64::from(year - b'0'));
+            values.push(i64::from(session));
+            // Printable, as the whole line was found to be.
+            push_characters(&held[6..], values);
+            Ok(())
+        }
+        Form::Code(set) => {
+            require(set.holds_all(held), malformed)?;
+            push_characters(held, values);
+            Ok(())
+        }
+        Form::CodeOrBlank(set) => {
+            require(fields::is_blank(held) || set.holds_all(held), malformed)?;
+            push_characters(held, values);
+            Ok(())
+        }
+        Form::Text(set) => require(set.holds_all(held), malformed),
+    }
+}
+
+fn require(good: bool, fault: At) -> Result<(), At> {
+    if good {
+        Ok(())
+    } else {
+        Err(fault)
+    }
+}
+
+fn push_characters(held: &[u8], values: &mut Vec<i64>) {
+    values.extend(held.iter().map(|&byte| i64::from(byte)));
+}
+
+/// Fields are judged from the left, so the height is known to be well formed
+/// when its code is judged: it is missing exactly when it is blank.
+fn height_is_missing(line: &[u8], height: usize) -> bool {
+    fields::is_blank(columns(line, height, CODED_HEIGHT_WIDTH))
+}
+
+/// Both are six digits, so they compare as they are printed.
+fn month_is_before(line: &[u8], this: usize, other: usize) -> bool {
+    columns(line, this, MONTH_WIDTH) < columns(line, other, MONTH_WIDTH)
+}
+
+/// Reads one record of a file by its number, judged by itself.
+pub fn read(file: &[u8], record: u64) -> Result<Reading, Fault> {
+    let fault = |(number, column): At| Fault {
+        number,
+        record,
+        column: column as u64,
+    };
+    let rest = rest_from(file, record).ok_or_else(|| fault((13, 0)))?;
+    read_line(rest).map_err(fault)
+}
+
+fn read_line(rest: &[u8]) -> Result<Reading, At> {
+    let line = line(rest)?;
+    let kind = kind(line)?;
+    let mut values = Vec::new();
+    let sequence = judge(line, kind, Compare::Nothing, &mut values)?;
+    Ok(Reading {
+        kind,
+        sequence,
+        values,
+    })
+}
+
+/// The file from the first byte of a record on, if that record has begun.
+fn rest_from(file: &[u8], record: u64) -> Option<&[u8]> {
+    if record == 0 || record > LAST_RECORD {
+        return None;
+    }
+    let start = LINE * (record as usize - 1);
+    if start < file.len() {
+        Some(&file[start..])
+    } else {
+        None
+    }
+}
+
+/// Where in the file a record's field is that starts in `column`: offset and
+/// length, or (0, 0) if read refuses the record or no field starts there.
+pub fn field(file: &[u8], record: u64, column: u64) -> (usize, usize) {
+    let Ok(reading) = read(file, record) else {
+        return (0, 0);
+    };
+    for field in FIELDS[reading.kind] {
+        if field.first as u64 == column {
+            let start = LINE * (record as usize - 1);
+            return (start + field.first - 1, field.width);
+        }
+    }
+    (0, 0)
+}
+
+/// Puts an accepted line of 80 columns into house style. Only numbers,
+/// heights and the letters of angles have more than one dress; everything
+/// else stays as it is.
+pub(super) fn dress(out: &mut [u8], line: &[u8], kind: usize, sequence: u64) {
+    out[..COLUMNS].copy_from_slice(line);
+    out[COLUMNS] = b'\n';
+    fields::put_number(&mut out[..6], sequence);
+    for field in FIELDS[kind] {
+        let held = columns(line, field.first, field.width);
+        let place = &mut out[field.first - 1..field.first - 1 + field.width];
+        match field.form {
+            Form::Number { .. } => {
+                if let Ok(Some(value)) = fields::number(held) {
+                    fields::put_number(place, u64::from(value));
+                }
+            }
+            Form::Height { .. } => {
+                if let Ok(value) = fields::height(held) {
+                    fields::put_height(place, value);
+                }
+            }
+            Form::AngleLetter { positive, .. } => {
+                // A zero of either letter is zero, and 180 W is 180 E.
+                let digits = match positive {
+                    b'N' => columns(line, 45, 11),
+                    _ => columns(line, 57, 12),
+                };
+                let zero = digits.iter().all(|&byte| byte == b'0');
+                if zero || digits == b"180000000000" {
+                    place[0] = positive;
+                }
+            }
+            _ => (),
+        }
+    }
+}
+
+/// Writes one record of 81 bytes. `values` are in the order `read` gives
+/// them, `texts` are the long texts in column order.
+pub fn write(
+    out: &mut [u8],
+    kind: i64,
+    sequence: Option<i64>,
+    values: &[i64],
+    texts: [&[u8]; 3],
+) -> Fault {
+    if out.len() < LINE {
+        return Fault::TOO_SHORT;
+    }
+    match compose(kind, sequence, values, texts) {
+        Ok(line) => {
+            out[..LINE].copy_from_slice(&line);
+            Fault::ACCEPTED
+        }
+        Err((number, column)) => Fault {
+            number,
+            record: 0,
+            column: column as u64,
+        },
+    }
+}
+
+/// Everything is judged from the left, and the line is only handed back when
+/// the last column is good.
+fn compose(
+    kind: i64,
+    sequence: Option<i64>,
+    values: &[i64],
+    texts: [&[u8]; 3],
+) -> Result<[u8; LINE], At> {
+    let mut line = [b' '; LINE];
+    line[COLUMNS] = b'\n';
+    match sequence {
+        None => (),
+        Some(number) if (1..=999_999).contains(&number) => {
+            fields::put_number(&mut line[..6], number as u64)
+        }
+        Some(_) => return Err((9, 1)),
+    }
+    if !(0..KINDS.len() as i64).contains(&kind) {
+        return Err((9, 7));
+    }
+    let kind = kind as usize;
+    let mut words = values.iter().copied();
+    let mut texts = texts.into_iter();
+
+    line[6] = b'*';
+    line[9] = b'*';
+    if kind == JOB {
+        for place in &mut line[7..9] {
+            *place = character(words.next()).ok_or((9, 7))?;
+        }
+        require(layout::is_job_code(line[7], line[8]), (9, 7))?;
+    } else {
+        line[7..9].copy_from_slice(KINDS[kind].as_bytes());
+    }
+    for field in FIELDS[kind] {
+        compose_field(&mut line, field, &mut words, &mut texts)?;
+    }
+    Ok(line)
+}
+
+fn compose_field<'a>(
+    line: &mut [u8; LINE],
+    field: &Field,
+    words: &mut impl Iterator<Item = i64>,
+    texts: &mut impl Iterator<Item = &'a [u8]>,
+) -> Result<(), At> {
+    let malformed = (9, field.first);
+    let disagrees = (10, field.first);
+    let (start, end) = (field.first - 1, field.first - 1 + field.width);
+    match field.form {
+        Form::Blank => Ok(()),
+        Form::Four => {
+            line[start] = b'4';
+            Ok(())
+        }
+        Form::Number { least, most } => {
+            let value = words.next().ok_or(malformed)?;
+            let range = i64::from(least)..=i64::from(most);
+            require(range.contains(&value), malformed)?;
+            fields::put_number(&mut line[start..end], value as u64);
+            Ok(())
+        }
+        Form::Height { optional } => {
+            let value = words.next().ok_or(malformed)?;
+            if value == MISSING {
+                return require(optional, malformed);
+            }
+            // One column of a negative height goes to the minus.
+            let most = 10_i64.pow(field.width as u32) - 1;
+            let least = -(10_i64.pow(field.width as u32 - 1) - 1);
+            require((least..=most).contains(&value), malformed)?;
+            fields::put_height(&mut line[start..end], Some(value as i32));
+            Ok(())
+        }
+        Form::HeightCode { set, height } => {
+            let code = character(words.next()).ok_or(malformed)?;
+            let blank = code == b' ';
+            require(blank || set.holds(code), malformed)?;
+            require(blank == height_is_missing(line, height), disagrees)?;
+            line[start] = code;
+            Ok(())
+        }
+        Form::Angle { most } => {
+            let value = words.next().ok_or(malformed)?;
+            // 180 W is 180 E, so the longitude at the negative end is no value.
+            let least = if most == MOST_LONGITUDE {
+                -most + 1
+            } else {
+                -most
+            };
+            require((least..=most).contains(&value), malformed)?;
+            fields::put_angle(&mut line[start..end], value);
+            // The letter's own field follows and takes no word: the sign has
+            // to be written here.
+            line[end] = if most == MOST_LONGITUDE {
+                fields::letter(value, b'E', b'W')
+            } else {
+                fields::letter(value, b'N', b'S')
+            };
+            Ok(())
+        }
+        Form::AngleLetter { .. } => Ok(()),
+        Form::Month | Form::MonthFrom { .. } => {
+            let value = words.next().ok_or(malformed)?;
+            require(fields::is_month(value), malformed)?;
+            fields::put_number(&mut line[start..end], value as u64);
+            if let Form::MonthFrom { from } = field.form {
+                require(!month_is_before(line, field.first, from), disagrees)?;
+            }
+            Ok(())
+        }
+        Form::Media => {
+            let maker = character(words.next()).ok_or(malformed)?;
+            let day = words.next().ok_or(malformed)?;
+            let year = words.next().ok_or(malformed)?;
+            let session = character(words.next()).ok_or(malformed)?;
+            let good = fields::Set::Letter.holds(maker)
+                && (1..=366).contains(&day)
+                && (0..=9).contains(&year)
+                && fields::Set::LetterOrDigit.holds(session);
+            require(good, malformed)?;
+            line[start] = maker;
+            fields::put_number(&mut line[start + 1..start + 4], day as u64);
+            fields::put_number(&mut line[start + 4..start + 5], year as u64);
+            line[start + 5] = session;
+            for place in &mut line[start + 6..end] {
+                *place = character(words.next()).ok_or(malformed)?;
+            }
+            Ok(())
+        }
+        Form::Code(set) => {
+            for place in &mut line[start..end] {
+                *place = character(words.next()).ok_or(malformed)?;
+            }
+            require(set.holds_all(&line[start..end]), malformed)
+        }
+        Form::CodeOrBlank(set) => {
+            for place in &mut line[start..end] {
+                *place = character(words.next()).ok_or(malformed)?;
+            }
+            let held = &line[start..end];
+            require(fields::is_blank(held) || set.holds_all(held), malformed)
+        }
+        Form::Text(set) => {
+            let text = texts.next().ok_or(malformed)?;
+            require(text.len() == field.width && set.holds_all(text), malformed)?;
+            line[start..end].copy_from_slice(text);
+            Ok(())
+        }
+    }
+}
+
+/// The printable character a word stands for.
+fn character(word: Option<i64>) -> Option<u8> {
+    let byte = u8::try_from(word?).ok()?;
+    fields::Set::Printable.holds(byte).then_some(byte)
+}

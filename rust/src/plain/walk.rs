@@ -1,0 +1,213 @@
+//! The whole file: what may follow what, references, rewriting.
+
+use super::fields;
+use super::layout::{
+    ANTENNA, COMMENT, HEIGHTS, INSTRUMENT, JOB, LAST_ACCURACY, LOCAL, MEASUREMENT, NETWORK,
+    OCCUPATION, POINT, PROJECT, TITLE, TITLE_MORE,
+};
+use super::records::{self, Compare};
+use super::{
+    Checked, Fault, FIRST_ANTENNA_WORD, FIRST_INSTRUMENT_WORD, LAST_RECORD, LINE, TABLE_WORDS,
+};
+
+/// What the last record was, as far as the next one depends on it.
+#[derive(Clone, Copy, PartialEq, Eq)]
+enum Place {
+    Nothing,
+    FirstJobCode,
+    Title,
+    TitleMore,
+    Project,
+    /// A *25* or *26*.
+    Occupation,
+    FirstMeasurement,
+    SecondMeasurement,
+    ThirdMeasurement,
+    Instrument,
+    Antenna,
+    Point,
+    Heights,
+    Network,
+    Local,
+    LastAccuracy,
+    LastJobCode,
+}
+
+/// The place after a record of this kind, if it may come. That a last job
+/// code is the first record's is for the caller to see to.
+fn next(place: Place, kind: usize) -> Option<Place> {
+    match (place, kind) {
+        (Place::Nothing, JOB) => Some(Place::FirstJobCode),
+        (Place::FirstJobCode, TITLE) => Some(Place::Title),
+        (Place::Title, TITLE_MORE) => Some(Place::TitleMore),
+        (Place::Title | Place::TitleMore, PROJECT) => Some(Place::Project),
+        (Place::Project, OCCUPATION) => Some(Place::Occupation),
+        (Place::Occupation, COMMENT) => Some(Place::Occupation),
+        (Place::Occupation, MEASUREMENT) => Some(Place::FirstMeasurement),
+        (Place::FirstMeasurement, MEASUREMENT) => Some(Place::SecondMeasurement),
+        (Place::SecondMeasurement, MEASUREMENT) => Some(Place::ThirdMeasurement),
+        (Place::SecondMeasurement | Place::ThirdMeasurement, OCCUPATION) => Some(Place::Occupation),
+        (Place::SecondMeasurement | Place::ThirdMeasurement, INSTRUMENT) => Some(Place::Instrument),
+        (Place::Instrument, INSTRUMENT) => Some(Place::Instrument),
+        (Place::Instrument | Place::Antenna, ANTENNA) => Some(Place::Antenna),
+        (Place::Antenna | Place::Heights, POINT) => Some(Place::Point),
+        (Place::Point, HEIGHTS) => Some(Place::Heights),
+        (Place::Heights | Place::Network, NETWORK) => Some(Place::Network),
+        (Place::Heights | Place::Network | Place::Local, LOCAL) => Some(Place::Local),
+        (Place::Heights | Place::Network | Place::Local, LAST_ACCURACY) => {
+            Some(Place::LastAccuracy)
+        }
+        (Place::Heights | Place::Network | Place::Local | Place::LastAccuracy, JOB) => {
+            Some(Place::LastJobCode)
+        }
+        _ => None,
+    }
+}
+
+/// Checks a file. On acceptance the table says in which record each station,
+/// instrument and antenna is defined.
+pub fn check(file: &[u8], table: &mut [u32]) -> Checked {
+    if table.len() < TABLE_WORDS {
+        return Checked::refused(Fault::TOO_SHORT);
+    }
+    let table = &mut table[..TABLE_WORDS];
+    table.fill(0);
+    let judged = walk(file, table).and_then(|counts| {
+        references(file, table)?;
+        Ok(counts)
+    });
+    match judged {
+        Ok(counts) => Checked {
+            fault: Fault::ACCEPTED,
+            counts,
+        },
+        Err(fault) => {
+            table.fill(0);
+            Checked::refused(fault)
+        }
+    }
+}
+
+/// Judges every record in turn and then the end of the file: faults 2 to 10.
+/// Fills the table with the first definition of each number.
+fn walk(file: &[u8], table: &mut [u32]) -> Result<[u32; 14], Fault> {
+    let mut counts = [0; 14];
+    let mut place = Place::Nothing;
+    let mut group_station = 0;
+    let mut point_station = 0;
+    let mut last_instrument = 0;
+    let mut last_antenna = 0;
+    let mut values = Vec::new();
+    let mut record = 1;
+    let mut rest = file;
+    while !rest.is_empty() {
+        let fault = |(number, column)| Fault {
+            number,
+            record,
+            column: column as u64,
+        };
+        if record > LAST_RECORD {
+            return Err(fault((2, 1)));
+        }
+        let line = records::line(rest).map_err(fault)?;
+        let kind = records::kind(line).map_err(fault)?;
+        place = next(place, kind).ok_or_else(|| fault((7, 7)))?;
+        if place == Place::LastJobCode && line[6..10] != file[6..10] {
+            return Err(fault((7, 7)));
+        }
+        let compare = match kind {
+            MEASUREMENT => Compare::Same(group_station),
+            HEIGHTS => Compare::Same(point_station),
+            INSTRUMENT => Compare::Above(last_instrument),
+            ANTENNA => Compare::Above(last_antenna),
+            _ => Compare::Nothing,
+        };
+        records::judge(line, kind, compare, &mut values).map_err(fault)?;
+        match kind {
+            OCCUPATION => group_station = values[0],
+            INSTRUMENT => {
+                last_instrument = values[0];
+                table[FIRST_INSTRUMENT_WORD + last_instrument as usize] = record as u32;
+            }
+            ANTENNA => {
+                last_antenna = values[0];
+                table[FIRST_ANTENNA_WORD + last_antenna as usize] = record as u32;
+            }
+            POINT => {
+                point_station = values[0];
+                // A second definition is fault 11 later; it must not hide
+                // the first.
+                let word = &mut table[point_station as usize];
+                if *word == 0 {
+                    *word = record as u32;
+                }
+            }
+            _ => (),
+        }
+        counts[kind] += 1;
+        record += 1;
+        rest = &rest[LINE..];
+    }
+    if place == Place::LastJobCode {
+        Ok(counts)
+    } else {
+        Err(Fault {
+            number: 8,
+            record,
+            column: 1,
+        })
+    }
+}
+
+/// Faults 11 and 12, once the file has no other: a *25* may name a station
+/// whose *80* comes later, so the whole file has to be read first.
+fn references(file: &[u8], table: &[u32]) -> Result<(), Fault> {
+    for (before, line) in file.chunks_exact(LINE).enumerate() {
+        let record = before as u64 + 1;
+        let word =
+            |first, width, start: usize| match fields::number(records::columns(line, first, width))
+            {
+                Ok(Some(number)) => table[start + number as usize],
+                _ => 0,
+            };
+        let fault = |number, column| Fault {
+            number,
+            record,
+            column,
+        };
+        match records::kind(line) {
+            Ok(OCCUPATION) => {
+                if word(11, 4, 0) == 0 {
+                    return Err(fault(12, 11));
+                }
+                if word(28, 3, FIRST_INSTRUMENT_WORD) == 0 {
+                    return Err(fault(12, 28));
+                }
+                if word(33, 3, FIRST_ANTENNA_WORD) == 0 {
+                    return Err(fault(12, 33));
+                }
+            }
+            Ok(POINT) if u64::from(word(11, 4, 0)) != record => return Err(fault(11, 11)),
+            _ => (),
+        }
+    }
+    Ok(())
+}
+
+/// Checks a file and puts it into `out` in house style.
+pub fn rewrite(file: &[u8], table: &mut [u32], out: &mut [u8]) -> Checked {
+    if out.len() < file.len() {
+        return Checked::refused(Fault::TOO_SHORT);
+    }
+    let checked = check(file, table);
+    if checked.fault == Fault::ACCEPTED {
+        let lines = file.chunks_exact(LINE).zip(out.chunks_exact_mut(LINE));
+        for (record, (line, place)) in (1..).zip(lines) {
+            let line = &line[..LINE - 1];
+            if let Ok(kind) = records::kind(line) {
+                records::dress(place, line, kind, 10 * record);
+            }
+        }
+    }
+    checked
+}

@@ -1,0 +1,250 @@
+//! Generated files, accepted and damaged.
+
+use crate::sample::{columns, house, verdict, ACCEPTED};
+use shelf::generate::{self, Dice, DAMAGES};
+use shelf::plain::layout::{long_texts, KINDS};
+use shelf::plain::{check, field, read, rewrite, write, Fault};
+
+/// Accepted files of many sizes.
+fn files() -> impl Iterator<Item = Vec<u8>> {
+    (0..400).map(|seed| generate::accepted(seed, 11 + (seed as usize * 7) % 150))
+}
+
+#[test]
+fn generated_files_have_the_size_asked_for_and_are_accepted() {
+    let mut seen = [0; 14];
+    for (seed, file) in files().enumerate() {
+        let records = 11 + (seed * 7) % 150;
+        assert_eq!(file.len(), 81 * records);
+        assert_eq!(verdict(&file), ACCEPTED, "seed {seed}");
+        let counts = check(&file, &mut vec![0; 12_000]).counts;
+        assert_eq!(counts.iter().sum::<u32>(), records as u32);
+        // Counted another way: the codes as they stand in the file.
+        for (kind, code) in KINDS.iter().enumerate().skip(1) {
+            let found = (1..=records).filter(|&record| columns(&file, record, 8, 2) == *code);
+            assert_eq!(counts[kind], found.count() as u32);
+            seen[kind] += counts[kind];
+        }
+        assert_eq!(counts[0], 2);
+    }
+    assert!(seen[1..].iter().all(|&count| count > 50), "{seen:?}");
+}
+
+#[test]
+fn every_dress_occurs() {
+    let mut padded = 0;
+    let mut blank_sequence = 0;
+    let mut inner_minus = 0;
+    let mut minus_zero = 0;
+    let mut missing = 0;
+    let mut south = 0;
+    let mut west_end = 0;
+    for file in files() {
+        for record in 1..=file.len() / 81 {
+            let text = |first, width| columns(&file, record, first, width);
+            blank_sequence += u32::from(text(1, 6) == "      ");
+            match text(8, 2).as_str() {
+                "25" => padded += u32::from(text(11, 1) == " "),
+                "86" => {
+                    inner_minus += u32::from(text(17, 7).rfind('-') > Some(0));
+                    minus_zero +=
+                        u32::from(text(17, 7).trim_start_matches([' ', '0']) == "-000000");
+                    missing += u32::from(text(17, 7) == "       ");
+                }
+                "80" => {
+                    south += u32::from(text(56, 1) == "S");
+                    west_end += u32::from(text(57, 13) == "180000000000W");
+                }
+                _ => (),
+            }
+        }
+    }
+    for count in [
+        padded,
+        blank_sequence,
+        inner_minus,
+        minus_zero,
+        missing,
+        south,
+        west_end,
+    ] {
+        assert!(count > 20, "{count}");
+    }
+}
+
+#[test]
+fn rewriting_keeps_the_meaning_and_rewriting_again_changes_nothing() {
+    for file in files() {
+        let rewritten = house(&file);
+        assert_eq!(verdict(&rewritten), ACCEPTED);
+        assert_eq!(house(&rewritten), rewritten);
+        for record in 1..=file.len() as u64 / 81 {
+            let before = read(&file, record).unwrap();
+            let after = read(&rewritten, record).unwrap();
+            assert_eq!(after.kind, before.kind);
+            assert_eq!(after.values, before.values);
+            assert_eq!(after.sequence, Some(10 * record as u32));
+            for (first, _) in long_texts(before.kind) {
+                assert_eq!(
+                    slice(&file, record, first),
+                    slice(&rewritten, record, first)
+                );
+            }
+        }
+    }
+}
+
+/// The dress of a file is no part of its meaning: files that differ only in
+/// sequence numbers are rewritten alike.
+#[test]
+fn sequence_numbers_do_not_show_in_house_style() {
+    for file in files() {
+        let mut other = file.clone();
+        for line in other.chunks_exact_mut(81) {
+            line[..6].copy_from_slice(b"   123");
+        }
+        assert_ne!(other, file);
+        assert_eq!(house(&other), house(&file));
+    }
+}
+
+fn slice(file: &[u8], record: u64, first: usize) -> &[u8] {
+    let (offset, length) = field(file, record, first as u64);
+    assert!(length > 4);
+    &file[offset..offset + length]
+}
+
+#[test]
+fn writing_what_was_read_gives_the_house_style() {
+    for file in files() {
+        let rewritten = house(&file);
+        for record in 1..=file.len() as u64 / 81 {
+            let reading = read(&file, record).unwrap();
+            let mut texts: [&[u8]; 3] = [b""; 3];
+            for (slot, (first, _)) in long_texts(reading.kind).into_iter().enumerate() {
+                texts[slot] = slice(&file, record, first);
+            }
+            let mut out = [0; 81];
+            let sequence = Some(10 * record as i64);
+            let fault = write(
+                &mut out,
+                reading.kind as i64,
+                sequence,
+                &reading.values,
+                texts,
+            );
+            assert_eq!(fault, Fault::ACCEPTED);
+            let start = 81 * (record as usize - 1);
+            assert_eq!(out[..], rewritten[start..start + 81]);
+        }
+    }
+}
+
+#[test]
+fn the_table_names_each_definition() {
+    for file in files() {
+        let mut table = vec![0; 12_000];
+        check(&file, &mut table);
+        let mut definitions = 0;
+        for record in 1..=file.len() as u64 / 81 {
+            let reading = read(&file, record).unwrap();
+            let start = match reading.kind {
+                7 => 10_000,
+                8 => 11_000,
+                9 => 0,
+                _ => continue,
+            };
+            assert_eq!(u64::from(table[start + reading.values[0] as usize]), record);
+            definitions += 1;
+        }
+        let used = table.iter().filter(|&&word| word != 0).count();
+        assert_eq!(used, definitions);
+    }
+}
+
+#[test]
+fn damage_brings_every_fault_often() {
+    let mut faults = [0; 14];
+    for seed in 0..4_000 {
+        // The long ones have their own test.
+        if seed % 64 != 63 {
+            faults[verdict(&generate::case(seed)).0 as usize] += 1;
+        }
+    }
+    for number in 3..=12 {
+        assert!(faults[number] >= 80, "fault {number}: {faults:?}");
+    }
+    assert!(faults[0] >= 80, "{faults:?}");
+    assert_eq!((faults[1], faults[2], faults[13]), (0, 0, 0));
+}
+
+#[test]
+fn files_at_the_limit_bring_fault_2() {
+    let mut faults = [0; 14];
+    for number in 0..24 {
+        let file = generate::case(64 * number + 63);
+        assert!(file.len() >= 81 * 99_999);
+        let fault = check(&file, &mut vec![0; 12_000]).fault;
+        faults[fault.number as usize] += 1;
+        if fault.number == 2 {
+            assert_eq!((fault.record, fault.column), (100_000, 1));
+        }
+    }
+    assert!(
+        faults[2] >= 6 && faults[8] >= 1 && faults[0] >= 1,
+        "{faults:?}"
+    );
+}
+
+/// What check says of a record, read says too, unless it is about its place
+/// among the others.
+#[test]
+fn check_and_read_agree_about_damaged_files() {
+    let mut compared = 0;
+    for seed in 0..3_000 {
+        if seed % 64 == 63 {
+            continue;
+        }
+        let file = generate::case(seed);
+        let fault = check(&file, &mut vec![0; 12_000]).fault;
+        let good_before = match fault.number {
+            0 => file.len() as u64 / 81,
+            _ => fault.record - 1,
+        };
+        for record in 1..=good_before {
+            assert!(read(&file, record).is_ok(), "seed {seed} record {record}");
+        }
+        if matches!(fault.number, 3..=6 | 9) {
+            assert_eq!(read(&file, fault.record), Err(fault), "seed {seed}");
+            compared += 1;
+        }
+    }
+    assert!(compared > 1_000, "{compared}");
+}
+
+#[test]
+fn the_same_seed_gives_the_same_file_and_another_does_not() {
+    assert_eq!(generate::accepted(5, 60), generate::accepted(5, 60));
+    assert_ne!(generate::accepted(5, 60), generate::accepted(6, 60));
+    assert_eq!(generate::case(5), generate::case(5));
+}
+
+#[test]
+fn damage_of_any_way_never_stops_the_shelf() {
+    let mut good = 0;
+    for seed in 0..2_000 {
+        let mut dice = Dice::new(seed);
+        let mut file = generate::accepted(seed, 11 + seed as usize % 30);
+        for _ in 0..2 {
+            let way = dice.pick(&DAMAGES);
+            generate::damage(&mut dice, &mut file, way);
+        }
+        let mut out = vec![0; file.len()];
+        let checked = rewrite(&file, &mut vec![0; 12_000], &mut out);
+        if checked.fault.number == 0 {
+            assert_eq!(verdict(&out), ACCEPTED, "seed {seed}");
+            good += 1;
+        }
+    }
+    assert!(good > 20, "{good}");
+}

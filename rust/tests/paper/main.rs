@@ -1,0 +1,12 @@
+//! The paper's own examples, faults and slips, worked out by hand, and
+//! generated files.
+
+mod columns;
+mod faults;
+mod generated;
+mod reading;
+mod sample;
+mod sheet;
+mod slips;
+mod structure;
+mod writing;
