@@ -6,17 +6,23 @@ use columns::signs::Split;
 use columns::signs::SplitLong;
 use columns::signs::split_long;
 use columns::signs::split_sign;
+use kinds::Antenna;
 use kinds::Fault;
+use kinds::Heights;
+use kinds::Measurement;
+use kinds::Occupation;
+use kinds::Point;
+use kinds::Project;
 use kinds::Record;
 use kinds::Sequence;
 use kinds::Three;
 use kinds::Two;
 
-pub fn text(t: &[u8]) {
+pub(crate) fn text(t: &[u8]) {
     io::write_all(1, t);
 }
 
-pub fn number(n: u64) {
+pub(crate) fn number(n: u64) {
     io::print_decimal(1, n);
     text(b" ");
 }
@@ -83,7 +89,7 @@ fn media(m: Media) {
     four(mark);
 }
 
-pub fn show_fault(f: Fault) {
+pub(crate) fn show_fault(f: Fault) {
     text(b"refused ");
     count(f.number);
     number(f.record as u64);
@@ -91,14 +97,75 @@ pub fn show_fault(f: Fault) {
     text(b"\n");
 }
 
-pub fn show_sequence(s: Sequence) {
+pub(crate) fn show_sequence(s: Sequence) {
     match s {
         Sequence::Missing => text(b"missing "),
         Sequence::Number(n) => count(n),
     }
 }
 
-pub fn show_record(what: Record) {
+fn show_project(r: Project) {
+    let initials = r.initials;
+    let second = r.second;
+    let state = r.state;
+    count(r.began);
+    count(r.ended);
+    three(initials);
+    three(second);
+    two(state);
+}
+
+fn show_occupation(r: Occupation) {
+    let label = r.media;
+    let initials = r.initials;
+    count(r.station);
+    media(label);
+    three(initials);
+    count(r.instrument);
+    count(r.antenna);
+}
+
+fn show_measurement(r: Measurement) {
+    count(r.station);
+    count(r.date);
+    count(r.time);
+    signed(r.height);
+}
+
+fn show_antenna(r: Antenna) {
+    let radome = r.radome;
+    count(r.antenna);
+    four(radome);
+}
+
+fn show_point(r: Point) {
+    let state = r.state;
+    count(r.station);
+    signed_long(r.latitude);
+    signed_long(r.longitude);
+    two(state);
+}
+
+fn show_heights(r: Heights) {
+    let class = r.class;
+    let datum = r.datum;
+    let orthometric = r.orthometric;
+    let geoid = r.geoid;
+    let ellipsoid = r.ellipsoid;
+    count(r.station);
+    height(orthometric);
+    byte(r.code);
+    two(class);
+    byte(r.indicator);
+    two(datum);
+    height(geoid);
+    byte(r.geoidcode);
+    height(ellipsoid);
+    byte(r.ellipsoidcode);
+    byte(r.ellipsoiddatum);
+}
+
+pub(crate) fn show_record(what: Record) {
     match what {
         Record::Job(r) => {
             byte(r.first);
@@ -106,66 +173,17 @@ pub fn show_record(what: Record) {
         }
         Record::Title(r) => text(b"title "),
         Record::Continuation(r) => text(b"continuation "),
-        Record::Project(r) => {
-            let initials = r.initials;
-            let second = r.second;
-            let state = r.state;
-            count(r.began);
-            count(r.ended);
-            three(initials);
-            three(second);
-            two(state);
-        }
-        Record::Occupation(r) => {
-            let m = r.media;
-            let initials = r.initials;
-            count(r.station);
-            media(m);
-            three(initials);
-            count(r.instrument);
-            count(r.antenna);
-        }
+        Record::Project(r) => show_project(r),
+        Record::Occupation(r) => show_occupation(r),
         Record::Comment(r) => text(b"comment "),
-        Record::Measurement(r) => {
-            count(r.station);
-            count(r.date);
-            count(r.time);
-            signed(r.height);
-        }
+        Record::Measurement(r) => show_measurement(r),
         Record::Instrument(r) => {
             count(r.instrument);
             count(r.equipment);
         }
-        Record::Antenna(r) => {
-            let radome = r.radome;
-            count(r.antenna);
-            four(radome);
-        }
-        Record::Point(r) => {
-            let state = r.state;
-            count(r.station);
-            signed_long(r.latitude);
-            signed_long(r.longitude);
-            two(state);
-        }
-        Record::Heights(r) => {
-            let class = r.class;
-            let datum = r.datum;
-            let orthometric = r.orthometric;
-            let geoid = r.geoid;
-            let ellipsoid = r.ellipsoid;
-            count(r.station);
-            height(orthometric);
-            byte(r.code);
-            two(class);
-            byte(r.indicator);
-            two(datum);
-            height(geoid);
-            byte(r.geoidcode);
-            height(ellipsoid);
-            byte(r.ellipsoidcode);
-            byte(r.ellipsoiddatum);
-        }
+        Record::Antenna(r) => show_antenna(r),
+        Record::Point(r) => show_point(r),
+        Record::Heights(r) => show_heights(r),
         Record::Network(r) => text(b"network "),
         Record::Local(r) => text(b"local "),
         Record::Factor(r) => text(b"factor "),

@@ -152,7 +152,7 @@ fn too_short() {
     }
 }
 
-pub fn write_refused() {
+pub(crate) fn write_refused() {
     points();
     more_points();
     jobs();
