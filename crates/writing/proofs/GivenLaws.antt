@@ -1,30 +1,28 @@
 -- What is given to write, as a whole: its code and kind, its judgement, and what the call answers and leaves. Assumes nothing.
 use mathlib.Core.Path.{_≡_, refl, sym, ap, _∙_}
-use mathlib.Core.Bool.{Bool, true, false, cond, _&&_, _||_, false≢true}
-use mathlib.Core.List.{List, [], _∷_, _++_}
-use Prim.Native.Nat.{ℕ, zero, suc, _+_, _-_, _≤_, _<_}
+use mathlib.Core.Bool.{Bool, true, false, cond, _&&_, _||_}
+use mathlib.Core.List.{List, [], _∷_}
+use Prim.Native.Nat.{ℕ, _+_, _≤_, _<_}
 use native.Mathlib.Omega.{arith}
-use lib.Dec.{leb, eqb, lit≤}
-use lib.ListN.{length, getD, take, drop}
+use lib.Dec.{leb, lit≤}
+use lib.ListN.{length}
 use borrow.Rule.Slice.PartMut.{putMid}
 use Rattle.rules.specs.Tests.{_&_, _≤?_, _=?_, within, all}
-use Rattle.rules.specs.Characters.{ascii, isDigit, isLetter, letter, digit, _or_, member}
+use Rattle.rules.specs.Characters.{isDigit, isLetter, letter, digit, _or_, member}
 use Rattle.rules.specs.Digits.{val}
-use Rattle.rules.specs.Items.{Value, text, onNumber, fits, render, number, media, angle, latitude, longitude, num}
+use Rattle.rules.specs.Items.{Value, text, fits, render, number, media, angle, latitude, longitude, num}
 use Rattle.rules.specs.Fields.{Verdict, ok, fault, check, _⨾_, isOk, anything, given, entriesOf, agrees, agreesWith, judgeEach, judge, isFormed, formed}
 use Rattle.rules.specs.Records.{Meaning, sequence, knownCode, told, ofKind, judgeGiven, meant, lineOf}
 use Rattle.rules.specs.Kinds.{dataCodes, kindFrom, starred, kindBetween, kindOf}
-use Rattle.rules.specs.Layouts.{at, station, anyText, kept, titled, project, occupation, comment, measurement, receiver, aerial, point, heights, layouts, layout}
+use Rattle.rules.specs.Layouts.{at, anyText, kept, titled, project, occupation, comment, measurement, receiver, aerial, point, heights, layouts, layout}
 use Rattle.rules.specs.Chapter4.{chapter4}
 use Rattle.rules.specs.Calls.{writeVerdict, writeOutput}
-use Rattle.rules.proofs.Truth.{both, and, to≤, of≤, to≡, of≡, of>, of≢, cases, is-no, not-both, to-within}
+use Rattle.rules.proofs.Truth.{both, and, of≤, to≡, of≡, of>, of≢, cases, is-no, not-both, to-within}
 use Rattle.rules.proofs.RecordLaws.{write-takes}
 use Rattle.columns.specs.declared.Count.{Count}
-use Rattle.columns.specs.declared.Four.{Four}
 use Rattle.columns.specs.declared.Set.{Set}
-use Rattle.columns.specs.Types.{setOf, countValue, mediaValue, fourOf}
+use Rattle.columns.specs.Types.{setOf, countValue, mediaValue}
 use Rattle.columns.proofs.Loops.{&-is}
-use Rattle.kinds.specs.declared.Sequence.{Sequence}
 use Rattle.kinds.specs.declared.Job.{Job}
 use Rattle.kinds.specs.declared.Occupation.{Occupation}
 use Rattle.kinds.specs.declared.Point.{Point}
@@ -32,12 +30,12 @@ use Rattle.kinds.specs.declared.Record.{Record}
 use Rattle.kinds.specs.declared.Record.the-variants as R
 use Rattle.kinds.specs.declared.Judged.{Judged}
 use Rattle.kinds.specs.declared.Written.{Written}
-use Rattle.kinds.specs.Values.{sequenceValue, kindNumber, codeOf, valuesOf, meaningOf, judgedOf, writtenOf}
+use Rattle.kinds.specs.Values.{kindNumber, codeOf, valuesOf, meaningOf, judgedOf, writtenOf}
 use Rattle.kinds.proofs.ValueLaws.{code-kind}
 use Rattle.writing.specs.Judging.{afterOf, judgeRecord}
 use Rattle.writing.specs.Laying.{lay, layFields, layoutOf}
-use Rattle.writing.proofs.JudgeLaws.{after-after, ⨾-same, chain}
-use Rattle.writing.proofs.KindLaws.{form, wordOf}
+use Rattle.writing.proofs.JudgeLaws.{after-after, ⨾-same}
+use Rattle.writing.proofs.KindLaws.{wordOf}
 use Rattle.writing.proofs.LayLaws.{line-laid}
 
 -- ---- the fourteen kinds

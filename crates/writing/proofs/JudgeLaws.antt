@@ -1,15 +1,15 @@
 -- Tests in a row: one law for each way through a function. Assumes nothing.
-use mathlib.Core.Path.{_≡_, refl, sym, ap, _∙_}
-use mathlib.Core.Bool.{Bool, true, false, cond, not, _&&_, _||_}
+use mathlib.Core.Path.{_≡_, refl, sym, _∙_}
+use mathlib.Core.Bool.{Bool, true, false, not, _&&_, _||_}
 use mathlib.Core.List.{List, [], _∷_, _++_}
 use Prim.Native.Nat.{ℕ}
-use lib.Dec.{leb, eqb}
+use lib.Dec.{eqb}
 use lib.ListN.{length}
-use Rattle.rules.specs.Tests.{_&_, _≤?_, _=?_, all}
+use Rattle.rules.specs.Tests.{_&_, _=?_, all}
 use Rattle.rules.specs.Characters.{isBlank}
-use Rattle.rules.specs.Items.{Test, each, orBlank, word, text, onText, passes, width, shape, valueOf, fits, good}
+use Rattle.rules.specs.Items.{Test, word, text, onText, passes, width, shape, valueOf, fits, good}
 use Rattle.rules.specs.Fields.{Verdict, ok, fault, check, _⨾_, sameTruth, isMissing}
-use Rattle.rules.proofs.Truth.{of≡, and-true}
+use Rattle.rules.proofs.Truth.{of≡}
 use Rattle.columns.proofs.Loops.{&-is}
 use Rattle.columns.specs.declared.Height.{Height}
 use Rattle.columns.specs.Types.{heightValue}

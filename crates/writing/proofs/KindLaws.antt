@@ -1,15 +1,14 @@
 -- The values of each kind of record as a row of tests: what is blank, constant or free leaves no test. Assumes nothing.
 use mathlib.Core.Path.{_≡_, refl, sym, _∙_}
-use mathlib.Core.Bool.{Bool, true, false, cond}
+use mathlib.Core.Bool.{true, false}
 use mathlib.Core.List.{List, [], _∷_, _++_}
 use Prim.Native.Nat.{ℕ}
-use lib.IntN.{ℤ, pos}
+use lib.IntN.{pos}
 use Rattle.rules.specs.Tests.{_&_, _≤?_, _=?_, within}
 use Rattle.rules.specs.Characters.{isPrintable}
-use Rattle.rules.specs.Characters as sets
 use Rattle.rules.specs.Items.{Value, num, text, Item, number, height, angle, month, media, word, each, orBlank, latitude, longitude, onGap, fits}
 use Rattle.rules.specs.Fields.{Verdict, check, _⨾_, anything, given, entriesOf, valueAt, numOf, isMissing, sameTruth, meets, agreesWith, agrees, judgeEach, judge}
-use Rattle.rules.specs.Layouts.{at, tied, station, instrument, antenna, initials, state, anyText, metres, letterOrBlank, kept, titled, project, occupation, comment, measurement, receiver, aerial, point, heights}
+use Rattle.rules.specs.Layouts.{at, tied, station, instrument, antenna, initials, state, anyText, metres, letterOrBlank, project, occupation, measurement, receiver, aerial, point, heights}
 use Rattle.columns.specs.declared.Set.{Set}
 use Rattle.columns.specs.declared.Height.{Height}
 use Rattle.columns.specs.Types.{setOf, heightValue, mediaValue, fourOf}

@@ -1,15 +1,15 @@
 -- Fields laid into a line. Assumes nothing.
 use mathlib.Core.Path.{_≡_, refl, sym, ap, _∙_}
-use mathlib.Core.Bool.{Bool, true, false, cond}
+use mathlib.Core.Bool.{true, false, cond}
 use mathlib.Core.List.{List, [], _∷_, _++_, append-assoc, append-nil}
 use Prim.Native.Nat.{ℕ, zero, suc, _+_, _-_, _≤_, _<_}
 use native.Mathlib.Nat.{add-sub-cancel-left}
 use native.Mathlib.Omega.{arith}
 use lib.IntN.{pos, negsuc}
-use lib.ListN.{length, take, drop, replicate, length-append, length-drop, length-replicate}
+use lib.ListN.{length, take, drop, length-append, length-drop, length-replicate}
 use lib.Seq.{length-take-le, take-at, take-all, drop-drop}
 use borrow.Rule.Slice.PartMut.{midOf, putMid}
-use Rattle.rules.specs.Tests.{_&_, _≤?_, _=?_, all}
+use Rattle.rules.specs.Tests.{_=?_, all}
 use Rattle.rules.specs.Items.{Item, number, media, Value, onNumber, width, fits, render}
 use Rattle.rules.specs.Fields.{Field, given, entriesOf, isFormed, formed, renders, covers}
 use Rattle.rules.specs.Records.{Meaning, sequence, knownCode, told, meant, lineOf}

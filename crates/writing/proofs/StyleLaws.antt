@@ -7,26 +7,24 @@ use native.Mathlib.Nat.{add-sub-cancel-left}
 use native.Mathlib.Numerals.{add-one}
 use native.Mathlib.Omega.{arith}
 use lib.Dec.{lit≤}
-use lib.IntN.{ℤ, pos, negsuc}
+use lib.IntN.{pos}
 use lib.ListN.{length, getD, take, drop, replicate, take-append-drop, length-drop, List·getD-map}
 use lib.Seq.{slice, slice-cons, slice-empty, take-add, length-take-le, drop-cons, drop-drop}
 use borrow.Rule.Slice.PartMut.{putMid}
-use Rattle.rules.specs.Tests.{_&_, _≤?_, _=?_, within, all}
-use Rattle.rules.specs.Characters.{isDigit, isBlank, isPrintable}
+use Rattle.rules.specs.Tests.{_&_, _≤?_, _=?_, all}
+use Rattle.rules.specs.Characters.{isDigit, isBlank}
 use Rattle.rules.specs.Digits.{val, put}
-use Rattle.rules.specs.Items.{Value, gap, missing, num, text, label, Way, Item, blank, constant, number, height, angle, month, media, word, onGap, onNumber, onText, onLabel, minus, signed, angleValue, columns, width, shape, valueOf, fits, render, good}
-use Rattle.rules.specs.Fields.{Field, read, values, columnsOf, isFormed, formed}
-use Rattle.rules.specs.Records.{Meaning, sequence, codeAt, entries, formedLine, meaning, lineOf}
+use Rattle.rules.specs.Items.{num, Way, Item, blank, constant, number, height, angle, month, media, word, onGap, onNumber, onText, onLabel, columns, width, shape, valueOf, fits, render, good}
+use Rattle.rules.specs.Fields.{read, values, columnsOf, isFormed, formed}
+use Rattle.rules.specs.Records.{sequence, codeAt, entries, formedLine, meaning, lineOf}
 use Rattle.rules.specs.Kinds.{kindOf}
 use Rattle.rules.specs.Layouts.{kept, layouts, layout}
 use Rattle.rules.specs.Chapter4.{chapter4}
 use Rattle.rules.proofs.Truth.{both, and, to≤, of≤, to≡, of≡, of-within, to-within, cases}
 use Rattle.rules.proofs.Lawful.{lawful, good-fits}
 use Rattle.rules.proofs.RecordLaws.{line-meant}
-use Rattle.columns.specs.declared.Count.{Count}
-use Rattle.columns.specs.declared.Height.{Height}
 use Rattle.columns.specs.Types.{wayOf, countOf, countValue, heightOf, heightValue, intOf}
-use Rattle.columns.specs.Leaves.{written, heightColumns}
+use Rattle.columns.specs.Leaves.{heightColumns}
 use Rattle.kinds.specs.declared.tables.Item.the-variants as I
 use Rattle.kinds.specs.Tables.{Row, row, rows, rowLists, items, firsts, widths, starts, itemOf, fieldOf}
 use Rattle.kinds.specs.declared.tables.Item as tables-item

@@ -1,14 +1,14 @@
 -- What the promise of `write` says: it determines the answer and every byte of the output, and what was written reads back. Assumes nothing.
 use mathlib.Core.Path.{_≡_, refl, sym, ap, _∙_}
-use mathlib.Core.Bool.{Bool, true, false, cond}
-use mathlib.Core.List.{List, [], _∷_, _++_}
+use mathlib.Core.Bool.{true, false}
+use mathlib.Core.List.{List, _++_}
 use Prim.Native.Nat.{ℕ}
 use lib.ListN.{length, take, drop}
 use lib.Seq.{take-at, drop-at}
 use Rattle.rules.specs.Tests.{_≤?_}
-use Rattle.rules.specs.Items.{Value, valueOf}
-use Rattle.rules.specs.Fields.{Verdict, ok, fault, check, _⨾_, isOk}
-use Rattle.rules.specs.Records.{Meaning, sequence, meaning, judgeGiven, lineOf}
+use Rattle.rules.specs.Items.{valueOf}
+use Rattle.rules.specs.Fields.{Verdict, ok, fault, check, isOk}
+use Rattle.rules.specs.Records.{sequence, meaning, judgeGiven, lineOf}
 use Rattle.rules.specs.Chapter4.{chapter4}
 use Rattle.rules.specs.Calls.{writeVerdict, writeOutput}
 use Rattle.rules.proofs.Truth.{both}

@@ -1,4 +1,3 @@
-use mathlib.Core.Path.{_≡_, refl, sym, ap, _∙_}
 use borrow.Author.Needs.{needs}
 use Rattle.columns.specs.Types.{fourOf}
 use Rattle.writing.proofs.judging.judge_four.Statement.{statement}

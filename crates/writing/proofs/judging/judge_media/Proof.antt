@@ -1,4 +1,4 @@
-use mathlib.Core.Path.{_≡_, refl, sym, ap, _∙_}
+use mathlib.Core.Path.{_∙_}
 use borrow.Author.Needs.{needs}
 use Rattle.writing.proofs.judging.judge_media.Statement.{statement}
 use Rattle.writing.proofs.judging.judge_media.Tie as tie

@@ -1,4 +1,4 @@
-use mathlib.Core.Path.{_≡_, refl, sym, ap, _∙_}
+use mathlib.Core.Path.{_∙_}
 use borrow.Author.Needs.{needs}
 use Rattle.writing.proofs.JudgeLaws.{word-fits}
 use Rattle.rules.specs.Items.{each}

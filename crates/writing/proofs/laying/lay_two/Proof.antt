@@ -1,4 +1,3 @@
-use mathlib.Core.Path.{_≡_, refl, sym, ap, _∙_}
 use borrow.Author.Needs.{needs}
 use Rattle.kinds.specs.Values.{twoText}
 use Rattle.writing.proofs.laying.lay_two.Statement.{statement}

@@ -1,20 +1,13 @@
-use mathlib.Core.Path.{_≡_, refl, sym, ap, _∙_}
 use borrow.Author.Needs.{needs}
-use lib.ListN.{length}
-use Rattle.writing.proofs.LayLaws.{fields-length}
-use Rattle.rules.specs.Items.{render, onNumber, onText, onGap}
-use Rattle.rules.specs.Layouts.{at, tied, station, instrument, antenna, initials, state, anyText, metres, letterOrBlank, project, occupation, measurement, receiver, aerial, point, heights}
-use Rattle.columns.specs.Types.{heightValue, wayOf}
-use Rattle.columns.specs.Leaves.{heightColumns}
+use Rattle.rules.specs.Layouts.{heights}
 use Rattle.kinds.specs.Values.{valuesOf}
-use Rattle.writing.specs.Laying.{lay, layFields}
+use Rattle.writing.specs.Laying.{layFields}
 use Rattle.writing.proofs.lines.lay_heights.Statement.{statement}
 use Rattle.writing.proofs.lines.lay_heights.Tie as tie
 
 returns : tie.Need-returns
-unfolding layFields at tied station instrument antenna initials state anyText metres letterOrBlank valuesOf render onNumber onText onGap heightColumns heightValue wayOf heights
+unfolding layFields valuesOf heights
 returns c =
-    let a = c .before .before .before .before .before .before .before .before .before .before .before .args in
     rw (c .before .before .lay-other-heights .ensures, c .before .before .before .before .before .before .lay-orthometric .ensures)
 
 pub lay-heights-spec : {M : Type 1} → statement M

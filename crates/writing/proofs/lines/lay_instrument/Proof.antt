@@ -1,20 +1,17 @@
-use mathlib.Core.Path.{_≡_, refl, sym, ap, _∙_}
+use mathlib.Core.Path.{ap, _∙_}
 use borrow.Author.Needs.{needs}
 use lib.ListN.{length}
 use Rattle.writing.proofs.LayLaws.{fields-length}
 use Rattle.rules.specs.Items.{render, onNumber, onText, onGap}
-use Rattle.rules.specs.Layouts.{at, tied, station, instrument, antenna, initials, state, anyText, metres, letterOrBlank, project, occupation, measurement, receiver, aerial, point, heights}
-use Rattle.columns.specs.Types.{heightValue, wayOf}
-use Rattle.columns.specs.Leaves.{heightColumns}
+use Rattle.rules.specs.Layouts.{at, tied, instrument, anyText, receiver}
 use Rattle.kinds.specs.Values.{valuesOf}
-use Rattle.writing.specs.Laying.{lay, layFields}
+use Rattle.writing.specs.Laying.{layFields}
 use Rattle.writing.proofs.lines.lay_instrument.Statement.{statement}
 use Rattle.writing.proofs.lines.lay_instrument.Tie as tie
 
 returns : tie.Need-returns
-unfolding layFields at tied station instrument antenna initials state anyText metres letterOrBlank valuesOf render onNumber onText onGap heightColumns heightValue wayOf receiver
+unfolding layFields at tied instrument anyText valuesOf render onNumber onText onGap receiver
 returns c =
-    let a = c .before .before .before .before .before .before .before .before .before .before .before .before .before .before .before .before .before .before .before .before .before .before .before .before .before .before .before .before .before .before .before .before .args in
     rw (c .before .before .lay-text3 .ensures, c .before .before .before .before .before .before .lay-text2 .ensures, c .before .before .before .before .before .before .before .before .before .before .lay-blank2 .ensures, c .before .before .before .before .before .before .before .before .before .before .before .before .before .before .lay-text .ensures, c .before .before .before .before .before .before .before .before .before .before .before .before .before .before .before .before .before .before .lay-blank .ensures, c .before .before .before .before .before .before .before .before .before .before .before .before .before .before .before .before .before .before .before .before .before .before .lay-number2 .ensures, c .before .before .before .before .before .before .before .before .before .before .before .before .before .before .before .before .before .before .before .before .before .before .before .before .before .before .lay-number .ensures)
 
 pub lay-instrument-spec : {M : Type 1} → statement M

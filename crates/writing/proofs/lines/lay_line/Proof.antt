@@ -1,4 +1,3 @@
-use mathlib.Core.Path.{_≡_, refl, sym, ap, _∙_}
 use borrow.Author.Needs.{needs}
 use Rattle.writing.proofs.GivenLaws.{given-formed, given-laid, sequence-count}
 use Rattle.kinds.specs.Values.{sequenceValue}

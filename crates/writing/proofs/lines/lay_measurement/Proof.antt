@@ -1,10 +1,8 @@
-use mathlib.Core.Path.{_≡_, refl, sym, ap, _∙_}
+use mathlib.Core.Path.{_≡_, ap, _∙_}
 use borrow.Author.Needs.{needs}
-use lib.ListN.{length}
-use Rattle.writing.proofs.LayLaws.{fields-length}
 use Rattle.rules.specs.Items.{render, onNumber, onText, onGap}
-use Rattle.rules.specs.Layouts.{at, tied, station, instrument, antenna, initials, state, anyText, metres, letterOrBlank, project, occupation, measurement, receiver, aerial, point, heights}
-use Rattle.columns.specs.Types.{heightValue, wayOf}
+use Rattle.rules.specs.Layouts.{at, tied, station, measurement}
+use Rattle.columns.specs.Types.{heightValue}
 use Rattle.columns.specs.Leaves.{heightColumns}
 use Rattle.kinds.specs.Values.{valuesOf}
 use Rattle.writing.specs.Laying.{lay, layFields}
@@ -16,7 +14,7 @@ use Rattle.writing.proofs.lines.lay_measurement.Statement.{statement}
 use Rattle.writing.proofs.lines.lay_measurement.Tie as tie
 
 returns : tie.Need-returns
-unfolding layFields at tied station instrument antenna initials state anyText metres letterOrBlank valuesOf render onNumber onText onGap heightColumns heightValue wayOf measurement
+unfolding layFields at tied station heightColumns heightValue valuesOf render onNumber onText onGap measurement
 returns c =
     let a = c .before .before .before .before .before .before .before .before .before .before .before .before .before .before .before .before .before .before .before .before .before .before .before .before .before .before .args in
     let height-back : toZ w32 (ofZ w32 (a .m .height)) ≡ a .m .height = search needs in

@@ -1,20 +1,18 @@
-use mathlib.Core.Path.{_≡_, refl, sym, ap, _∙_}
+use mathlib.Core.Path.{ap, _∙_}
 use borrow.Author.Needs.{needs}
 use lib.ListN.{length}
 use Rattle.writing.proofs.LayLaws.{fields-length}
 use Rattle.rules.specs.Items.{render, onNumber, onText, onGap}
-use Rattle.rules.specs.Layouts.{at, tied, station, instrument, antenna, initials, state, anyText, metres, letterOrBlank, project, occupation, measurement, receiver, aerial, point, heights}
-use Rattle.columns.specs.Types.{heightValue, wayOf}
+use Rattle.rules.specs.Layouts.{at, tied, anyText, metres, letterOrBlank, heights}
 use Rattle.columns.specs.Leaves.{heightColumns}
 use Rattle.kinds.specs.Values.{valuesOf}
-use Rattle.writing.specs.Laying.{lay, layFields}
+use Rattle.writing.specs.Laying.{layFields}
 use Rattle.writing.proofs.lines.lay_other_heights.Statement.{statement}
 use Rattle.writing.proofs.lines.lay_other_heights.Tie as tie
 
 returns : tie.Need-returns
-unfolding layFields at tied station instrument antenna initials state anyText metres letterOrBlank valuesOf render onNumber onText onGap heightColumns heightValue wayOf heights
+unfolding layFields at tied anyText metres letterOrBlank heightColumns valuesOf render onNumber onText onGap heights
 returns c =
-    let a = c .before .before .before .before .before .before .before .before .before .before .before .before .before .before .before .before .before .before .before .before .before .before .before .before .before .before .before .before .before .before .before .before .before .before .args in
     rw (c .before .before .lay-text .ensures, c .before .before .before .before .before .before .lay-one3 .ensures, c .before .before .before .before .before .before .before .before .before .before .lay-blank2 .ensures, c .before .before .before .before .before .before .before .before .before .before .before .before .before .before .lay-one2 .ensures, c .before .before .before .before .before .before .before .before .before .before .before .before .before .before .before .before .before .before .lay-height2 .ensures, c .before .before .before .before .before .before .before .before .before .before .before .before .before .before .before .before .before .before .before .before .before .before .lay-blank .ensures, c .before .before .before .before .before .before .before .before .before .before .before .before .before .before .before .before .before .before .before .before .before .before .before .before .before .before .lay-one .ensures, c .before .before .before .before .before .before .before .before .before .before .before .before .before .before .before .before .before .before .before .before .before .before .before .before .before .before .before .before .before .before .lay-height .ensures)
 
 pub lay-other-heights-spec : {M : Type 1} → statement M

@@ -1,4 +1,3 @@
-use mathlib.Core.Path.{_≡_, refl, sym, ap, _∙_}
 use borrow.Author.Needs.{needs}
 use Rattle.writing.proofs.GivenLaws.{media-fitting, angles-fitting}
 use Rattle.rules.specs.Items.{render, onText}

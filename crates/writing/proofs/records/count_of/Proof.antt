@@ -1,4 +1,4 @@
-use mathlib.Core.Path.{_≡_, refl, sym, ap, _∙_}
+use mathlib.Core.Path.{sym}
 use borrow.Author.Needs.{needs}
 use Rattle.columns.specs.Types.{countValue}
 use Rattle.kinds.specs.Values.{sequenceValue}

@@ -1,14 +1,13 @@
-use mathlib.Core.Path.{_≡_, refl, sym, ap, _∙_}
+use mathlib.Core.Path.{sym, ap, _∙_}
 use borrow.Author.Needs.{needs}
 use Rattle.writing.proofs.JudgeLaws.{after-chain}
 use Rattle.writing.proofs.KindLaws.{form, tie, wordOf, antennaTests, antenna-chain}
 use Rattle.writing.specs.Judging.{afterOf}
-use Rattle.columns.specs.Types.{wayOf, heightValue}
 use Rattle.writing.proofs.records.judge_antenna.Statement.{statement}
 use Rattle.writing.proofs.records.judge_antenna.Tie as tie
 
 returns : tie.Need-returns
-unfolding antennaTests form tie wordOf wayOf heightValue
+unfolding antennaTests form wordOf
 returns c =
     let a = c .before .before .before .before .before .before .args in
     rw (c .judge-printable2 .ensures, c .before .judge-four .ensures, c .before .before .judge-printable .ensures, c .before .before .before .judge-count .ensures)

@@ -1,4 +1,3 @@
-use mathlib.Core.Path.{_≡_, refl, sym, ap, _∙_}
 use borrow.Author.Needs.{needs}
 use Rattle.writing.proofs.GivenLaws.{sequence-fits, given-judged}
 use Rattle.writing.proofs.records.judge_given.Statement.{statement}

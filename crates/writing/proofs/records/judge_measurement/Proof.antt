@@ -1,19 +1,19 @@
-use mathlib.Core.Path.{_≡_, refl, sym, ap, _∙_}
+use mathlib.Core.Path.{_≡_, sym, ap, _∙_}
 use borrow.Author.Needs.{needs}
 use Rattle.writing.proofs.JudgeLaws.{after-chain}
-use Rattle.writing.proofs.KindLaws.{form, tie, wordOf, measurementTests, measurement-chain}
+use Rattle.writing.proofs.KindLaws.{form, tie, measurementTests, measurement-chain}
 use Rattle.writing.specs.Judging.{afterOf}
-use Rattle.columns.specs.Types.{wayOf, heightValue}
+use Rattle.columns.specs.Types.{heightValue}
 use mathlib.Core.Bool.{false}
 use mir.Syntax.{w32}
 use mir.Val.{toZ, ofZ}
-use Rattle.rules.specs.Items.{fits, num, height, angle, latitude, longitude}
+use Rattle.rules.specs.Items.{fits, num, height}
 use Rattle.rules.specs.Fields.{check}
 use Rattle.writing.proofs.records.judge_measurement.Statement.{statement}
 use Rattle.writing.proofs.records.judge_measurement.Tie as tie
 
 returns : tie.Need-returns
-unfolding measurementTests form tie wordOf wayOf heightValue
+unfolding measurementTests form heightValue
 returns c =
     let a = c .before .before .before .before .before .args in
     let height-back : toZ w32 (ofZ w32 (a .m .height)) ≡ a .m .height = search needs in

@@ -1,14 +1,13 @@
-use mathlib.Core.Path.{_≡_, refl, sym, ap, _∙_}
+use mathlib.Core.Path.{sym, ap, _∙_}
 use borrow.Author.Needs.{needs}
 use Rattle.writing.proofs.JudgeLaws.{after-chain}
 use Rattle.writing.proofs.KindLaws.{form, tie, wordOf, occupationTests, occupation-chain}
 use Rattle.writing.specs.Judging.{afterOf}
-use Rattle.columns.specs.Types.{wayOf, heightValue}
 use Rattle.writing.proofs.records.judge_occupation.Statement.{statement}
 use Rattle.writing.proofs.records.judge_occupation.Tie as tie
 
 returns : tie.Need-returns
-unfolding occupationTests form tie wordOf wayOf heightValue
+unfolding occupationTests form wordOf
 returns c =
     let a = c .before .before .before .before .before .args in
     rw (c .judge-count3 .ensures, c .before .judge-count2 .ensures, c .before .before .judge-three .ensures, c .before .before .before .judge-media .ensures, c .before .before .before .before .judge-count .ensures)

@@ -1,15 +1,14 @@
-use mathlib.Core.Path.{_≡_, refl, sym, ap, _∙_}
+use mathlib.Core.Path.{sym, ap, _∙_}
 use borrow.Author.Needs.{needs}
 use Rattle.writing.proofs.JudgeLaws.{after-chain}
 use Rattle.writing.proofs.KindLaws.{form, tie, wordOf, orthometricTests, orthometric-chain}
 use mathlib.Core.List.{[]}
 use Rattle.writing.specs.Judging.{afterOf}
-use Rattle.columns.specs.Types.{wayOf, heightValue}
 use Rattle.writing.proofs.records.judge_orthometric.Statement.{statement}
 use Rattle.writing.proofs.records.judge_orthometric.Tie as tie
 
 returns : tie.Need-returns
-unfolding orthometricTests form tie wordOf wayOf heightValue
+unfolding orthometricTests form tie wordOf
 returns c =
     let a = c .before .before .before .before .before .before .before .before .args in
     rw (c .judge-printable .ensures, c .before .judge-pair2 .ensures, c .before .before .judge-tied2 .ensures, c .before .before .before .judge-pair .ensures, c .before .before .before .before .judge-tied .ensures, c .before .before .before .before .before .judge-height .ensures, c .before .before .before .before .before .before .judge-count .ensures)

@@ -1,19 +1,18 @@
-use mathlib.Core.Path.{_≡_, refl, sym, ap, _∙_}
+use mathlib.Core.Path.{_≡_, sym, ap, _∙_}
 use borrow.Author.Needs.{needs}
 use Rattle.writing.proofs.JudgeLaws.{after-chain}
 use Rattle.writing.proofs.KindLaws.{form, tie, wordOf, pointTests, point-chain}
 use Rattle.writing.specs.Judging.{afterOf}
-use Rattle.columns.specs.Types.{wayOf, heightValue}
-use mathlib.Core.Bool.{false}
+use Rattle.columns.specs.Types.{wayOf}
 use mir.Syntax.{w64}
 use mir.Val.{toZ, ofZ}
-use Rattle.rules.specs.Items.{fits, num, height, angle, latitude, longitude}
+use Rattle.rules.specs.Items.{fits, num, angle, latitude, longitude}
 use Rattle.rules.specs.Fields.{check}
 use Rattle.writing.proofs.records.judge_point.Statement.{statement}
 use Rattle.writing.proofs.records.judge_point.Tie as tie
 
 returns : tie.Need-returns
-unfolding pointTests form tie wordOf wayOf heightValue
+unfolding pointTests form wordOf wayOf
 returns c =
     let a = c .before .before .before .before .before .before .before .before .args in
     let longitude-back : toZ w64 (ofZ w64 (a .p .longitude)) ≡ a .p .longitude = search needs in

@@ -1,14 +1,13 @@
-use mathlib.Core.Path.{_≡_, refl, sym, ap, _∙_}
+use mathlib.Core.Path.{sym, ap, _∙_}
 use borrow.Author.Needs.{needs}
 use Rattle.writing.proofs.JudgeLaws.{after-chain}
 use Rattle.writing.proofs.KindLaws.{form, tie, wordOf, projectTests, project-chain}
 use Rattle.writing.specs.Judging.{afterOf}
-use Rattle.columns.specs.Types.{wayOf, heightValue}
 use Rattle.writing.proofs.records.judge_project.Statement.{statement}
 use Rattle.writing.proofs.records.judge_project.Tie as tie
 
 returns : tie.Need-returns
-unfolding projectTests form tie wordOf wayOf heightValue
+unfolding projectTests form wordOf
 returns c =
     let a = c .before .before .before .before .before .before .before .before .before .args in
     rw (c .judge-two .ensures, c .before .judge-text2 .ensures, c .before .before .judge-three2 .ensures, c .before .before .before .judge-text .ensures, c .before .before .before .before .judge-three .ensures, c .before .before .before .before .before .judge-later .ensures, c .before .before .before .before .before .before .judge-month .ensures)

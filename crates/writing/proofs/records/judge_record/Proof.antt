@@ -1,4 +1,4 @@
-use mathlib.Core.Path.{_≡_, refl, sym, ap, _∙_}
+use mathlib.Core.Path.{sym, ap, _∙_}
 use borrow.Author.Needs.{needs}
 use lib.Dec.{lit≤}
 use Rattle.writing.proofs.GivenLaws.{judge-arm, judge-text, job-arm}

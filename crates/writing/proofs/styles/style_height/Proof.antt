@@ -1,4 +1,4 @@
-use mathlib.Core.Path.{_≡_, refl, sym, ap, _∙_}
+use mathlib.Core.Path.{_∙_}
 use borrow.Author.Needs.{needs}
 use Rattle.writing.specs.Styling.{heightStyle}
 use Rattle.writing.proofs.styles.style_height.Statement.{statement}
