@@ -16,6 +16,7 @@ use Rattle.rules.specs.Items as items
 use Rattle.rules.specs.Items.{angle, num, signed, angleOf, dms, dmsForm, columns, top, low, plus, minusOf, angleValue, onNumber, width, shape, valueOf, fits, render, good, angleDigits, spot}
 use Rattle.rules.proofs.Truth.{both, to≤, of≤, of≡, cases, &-assoc, &-comm, true-and}
 use Rattle.rules.proofs.DigitLaws.{length-put}
+use Rattle.rules.proofs.Lawful.{low-top}
 use Rattle.columns.specs.Types.{wayOf, intOf}
 use Rattle.columns.specs.Leaves.{limitsOf, digitsUpTo, longFits, splitLongOf}
 use Rattle.columns.specs.declared.Way.{Way}
@@ -44,11 +45,6 @@ columns-few items.longitude = omega arith
 
 pub few : {m : Limits} {w : items.Way} → Agrees m w → m .columns ≤ 12
 few {w = w} a = omega (arith, a .wide, columns-few w)
-
-low-top : (w : items.Way) → low w ≤ top w
-unfolding low top
-low-top items.latitude = omega arith
-low-top items.longitude = omega arith
 
 top-most : (w : items.Way) → top w ≤ 64_800_000_000
 unfolding top

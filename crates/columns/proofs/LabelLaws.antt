@@ -61,7 +61,7 @@ media-read bs m d y s a b c e =
       mark = record { 0 = (a ∙ sym (getD-drop 6 bs 0 0)) j; 1 = (b ∙ sym (getD-drop 6 bs 1 0)) j; 2 = (c ∙ sym (getD-drop 6 bs 2 0)) j; 3 = (e ∙ sym (getD-drop 6 bs 3 0)) j };
     }
 
-four-back : (t : List ℕ) → length t ≡ 4 → fourOf (four t) ≡ t
+pub four-back : (t : List ℕ) → length t ≡ 4 → fourOf (four t) ≡ t
 unfolding fourOf four
 four-back [] h = absurd (omega arith)
 four-back (a ∷ []) h = absurd (omega arith)

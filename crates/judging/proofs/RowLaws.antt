@@ -1,18 +1,17 @@
 -- Judging row by row is the judge of `rules`, for every kind; and the facts of the tables that the loop needs.
-use mathlib.Core.Path.{_≡_, refl, sym, _∙_, ap, ap₂, subst}
-use mathlib.Core.Bool.{Bool, true, false, cond}
-use mathlib.Core.List.{List, [], _∷_, _++_, map}
+use mathlib.Core.Path.{_≡_, refl, sym, _∙_, ap}
+use mathlib.Core.Bool.{Bool, true, false}
+use mathlib.Core.List.{List, [], _∷_, map}
 use Prim.Native.Nat.{ℕ, zero, suc, _+_, _-_, _*_, _≤_, _<_}
 use native.Mathlib.Omega.{arith}
 use lib.Dec.{lit≤}
-use native.Mathlib.Numerals.{add-one}
-use lib.Seq.{slice, slice-cons, slice-empty}
+use lib.Seq.{slice, slice-empty}
 use lib.ListN.{length, take, drop, getD}
 use Rattle.rules.specs.Tests.{all, _&_, _≤?_, _=?_}
 use Rattle.rules.specs.Characters.{isBlank, letter, digit, space, only, _or_}
 use Rattle.rules.specs.Digits.{val}
 use Rattle.rules.specs.Items.{Test, each, number, height, month, word, columns, width, valueOf, good, spot}
-use Rattle.rules.specs.Fields.{Expect, Verdict, ok, fault, check, _⨾_, Entry, columnsOf, read, valueAt, numOf, isMissing, agreesWith, agrees, judgeEach, judge}
+use Rattle.rules.specs.Fields.{Expect, Verdict, ok, fault, check, _⨾_, columnsOf, read, valueAt, numOf, isMissing, agreesWith, agrees, judgeEach, judge}
 use Rattle.rules.specs.Layouts.{at, tied, station, instrument, antenna, initials, state, anyText, metres, letterOrBlank, kept, titled, project, occupation, comment, measurement, receiver, aerial, point, heights, layouts}
 use Rattle.rules.proofs.Truth.{both, to≤, of≤, to≡, cases}
 use Rattle.kinds.specs.declared.tables.Item.{Item}
@@ -20,10 +19,10 @@ use Rattle.kinds.specs.declared.tables.Item.the-variants as I
 use Rattle.columns.specs.Types.{wayOf, setOf}
 use Rattle.kinds.specs.declared.tables.Bond.{Bond}
 use Rattle.kinds.specs.declared.tables.Bond.the-variants as B
-use Rattle.kinds.specs.Tables.{itemOf, Row, row, rowLists, rows, starts, items, bonds, firsts, widths}
+use Rattle.kinds.specs.Tables.{itemOf, Row, rowLists, rows, starts, items, bonds, firsts, widths}
 use Rattle.kinds.specs.declared.Judged.{Judged}
 use Rattle.kinds.specs.Values.{judgedOf}
-use Rattle.kinds.proofs.TableLaws.{each-kind, Begins, begins}
+use Rattle.kinds.proofs.TableLaws.{each-kind, begins, item-is, bond-is, first-is, width-is, row-passes, rows-from}
 use Rattle.judging.specs.Judging.{part, numberIn, agreesIn, judgeRow, judgeRowAt, judgeRows, sized}
 
 -- ---- verdicts one after the other
@@ -147,28 +146,11 @@ pub record Inside (i : Item) (c w : ℕ) : Type 0 where
   pub last : c + w ≤ 81
   pub narrow : sized (itemOf i w) ≡ true
 
-all-at : (rs : List Row) (i : ℕ) → all inside rs ≡ true → i < length rs → inside (getD rs i (row I.Blank 1 0)) ≡ true
-unfolding all
-all-at [] i h k = absurd (omega arith)
-all-at (r ∷ rs) zero h k = both h .0
-all-at (r ∷ rs) (suc i) h k = all-at rs i (both h .1) (omega arith)
-
--- what the tables say of a row, put together
-row-at : (rs : List Row) (i : ℕ) → i < length rs
-    → getD rs i (row I.Blank 1 0) ≡ record { item = getD (map (λ r. r .item) rs) i I.Blank; bond = getD (map (λ r. r .bond) rs) i B.Free; first = getD (map (λ r. r .first) rs) i 0; width = getD (map (λ r. r .width) rs) i 0 }
-row-at [] i k = absurd (omega arith)
-row-at (r ∷ rs) zero k = refl
-row-at (r ∷ rs) (suc i) k = row-at rs i (omega arith)
-
-rows-67 : length rows ≡ 67
-rows-67 = refl
-
 pub row-inside : (i : ℕ) → i < 67 → Inside (getD items i I.Blank) (getD firsts i 0) (getD widths i 0)
 unfolding inside
 row-inside i h =
-    let k : i < length rows = rw rows-67 h in
-    let t = subst (λ r. inside r ≡ true) (row-at rows i k) (all-at rows i rows-inside k) in
-    record { first = to≤ (both (both t .0) .0); last = to≤ (both (both t .0) .1); narrow = both t .1 }
+    let t = row-passes inside rows-inside i h in
+    rw (item-is i, first-is i, width-is i) record { first = to≤ (both (both t .0) .0); last = to≤ (both (both t .0) .1); narrow = both t .1 }
 
 -- the tables' answers put together
 pub at-requires : (i : ℕ) → i < 67 → {n : ℕ} → 80 ≤ n → (f : ℕ) → f ≡ getD firsts i 0 → (c : ℕ) → c ≡ f → (v : ℕ) → v ≡ getD widths i 0 → (w : ℕ) → w ≡ v → (it : Item) → it ≡ getD items i I.Blank
@@ -199,10 +181,7 @@ module _ {e : Expect} {l : List ℕ} {kind end i : ℕ} (v : Walked e l kind end
 
   step : judgeRows e l (slice i end rows) ≡ judgeRowAt e l i ⨾ judgeRows e l (slice (i + 1) end rows)
   unfolding judgeRows judgeRowAt
-  step =
-      let k : i < length rows = omega (arith, v .high, rows-67) in
-      let cut : slice i end rows ≡ getD rows i (row I.Blank 1 0) ∷ slice (i + 1) end rows = slice-cons i end rows (row I.Blank 1 0) h (omega (arith, v .high, rows-67)) ∙ rw (add-one i) in
-      ap (judgeRows e l) cut ∙ rw (row-at rows i k)
+  step = ap (judgeRows e l) (rows-from i end h (v .high)) ∙ rw (item-is i, bond-is i, first-is i, width-is i)
 
   pub walk-stop : (j : Judged) → j ≡ judgedOf (judgeRowAt e l i) → (n c : ℕ) → j ≡ Judged.Bad n c → Judged.Bad n c ≡ judgedOf (judge e (map (read l) (getD layouts kind kept)))
   walk-stop j p n c q = sym (ap judgedOf (sym (v .same) ∙ step) ∙ bad-then _ _ n c (sym p ∙ q))

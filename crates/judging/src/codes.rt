@@ -1,4 +1,5 @@
 // Columns 7-10: the kind of a record by its code.
+use kinds::tables::wide;
 ghost use mathlib.Core.Path.{_≡_};
 ghost use Prim.Native.Nat.{_<_};
 ghost use lib.ListN.{getD};
@@ -120,12 +121,6 @@ fn kind_of_number(n: usize) -> u8
     ensures { λ r. ⌜ r ≡ getD (kindsFrom 100 0) n 0 ⌝ }
 {
     KINDS[n]
-}
-
-fn wide(b: u8) -> usize
-    ensures { λ r. ⌜ r ≡ b ⌝ }
-{
-    b as usize
 }
 
 fn is_data(a: u8, b: u8) -> bool

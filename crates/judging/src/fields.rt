@@ -21,6 +21,7 @@ use kinds::tables::bond_at;
 use kinds::tables::first_at;
 use kinds::tables::item_at;
 use kinds::tables::start_at;
+use kinds::tables::wide;
 use kinds::tables::width_at;
 ghost use mathlib.Core.Path.{_≡_};
 ghost use mathlib.Core.Bool.{true};
@@ -91,12 +92,6 @@ fn spot_item(item: Item, part: &[u8]) -> usize
         Item::Name => 0,
         Item::Printable => 0,
     }
-}
-
-fn wide(b: u8) -> usize
-    ensures { λ r. ⌜ r ≡ b ⌝ }
-{
-    b as usize
 }
 
 fn long(n: u32) -> u64

@@ -1,16 +1,21 @@
 -- The code's rows are the layouts of `rules`, kind by kind, and the flat tables are the rows one kind after the other.
 use mathlib.Core.Path.{_≡_, refl, sym, _∙_, ap}
-use mathlib.Core.Bool.{true, false}
+use mathlib.Core.Bool.{Bool, true, false}
 use mathlib.Core.List.{List, [], _∷_, _++_, map}
 use Prim.Native.Nat.{ℕ, zero, suc, _+_, _≤_, _<_}
+use native.Mathlib.Numerals.{add-one}
 use native.Mathlib.Omega.{arith}
 use lib.Dec.{lit≤}
-use lib.ListN.{length, getD}
-use lib.Seq.{slice}
+use lib.ListN.{length, getD, List·getD-map}
+use lib.Seq.{slice, slice-cons}
+use Rattle.rules.specs.Tests.{all}
 use Rattle.rules.specs.Fields.{Field}
 use Rattle.rules.specs.Layouts.{at, tied, station, instrument, antenna, initials, state, anyText, metres, letterOrBlank, kept, titled, project, occupation, comment, measurement, receiver, aerial, point, heights, layouts}
+use Rattle.rules.proofs.Truth.{both}
 use Rattle.columns.specs.Types.{wayOf, setOf}
-use Rattle.kinds.specs.Tables.{itemOf, bondOf, Row, fieldOf, rowLists, rows, starts}
+use Rattle.kinds.specs.declared.tables.Item.the-variants as I
+use Rattle.kinds.specs.declared.tables.Bond.the-variants as B
+use Rattle.kinds.specs.Tables.{itemOf, bondOf, Row, row, fieldOf, rowLists, rows, rowAt, items, bonds, firsts, widths, starts}
 
 pub rows-are-layouts : map (map fieldOf) rowLists ≡ layouts
 unfolding fieldOf wayOf setOf layouts kept titled project occupation comment measurement receiver aerial point heights at tied station instrument antenna initials state anyText metres letterOrBlank
@@ -49,3 +54,37 @@ begins = each-kind Begins
     record { low = lit≤ tt; high = lit≤ tt; whole = refl } record { low = lit≤ tt; high = lit≤ tt; whole = refl }
     record { low = lit≤ tt; high = lit≤ tt; whole = refl } record { low = lit≤ tt; high = lit≤ tt; whole = refl }
     record { low = lit≤ tt; high = lit≤ tt; whole = refl } record { low = lit≤ tt; high = lit≤ tt; whole = refl }
+
+-- ---- what the flat tables say of row i
+module _ (i : ℕ) where
+  pub item-is : getD items i I.Blank ≡ rowAt i .item
+  unfolding rowAt
+  item-is = List·getD-map (λ (r : Row). r .item) rows i (row I.Blank 0 0)
+
+  pub bond-is : getD bonds i B.Free ≡ rowAt i .bond
+  unfolding rowAt
+  bond-is = List·getD-map (λ (r : Row). r .bond) rows i (row I.Blank 0 0)
+
+  pub first-is : getD firsts i 0 ≡ rowAt i .first
+  unfolding rowAt
+  first-is = List·getD-map (λ (r : Row). r .first) rows i (row I.Blank 0 0)
+
+  pub width-is : getD widths i 0 ≡ rowAt i .width
+  unfolding rowAt
+  width-is = List·getD-map (λ (r : Row). r .width) rows i (row I.Blank 0 0)
+
+all-at : (p : Row → Bool) (l : List Row) (d : Row) (i : ℕ) → all p l ≡ true → i < length l → p (getD l i d) ≡ true
+unfolding all
+all-at p [] d i h k = absurd (omega arith)
+all-at p (x ∷ xs) d zero h k = both h .0
+all-at p (x ∷ xs) d (suc i) h k = all-at p xs d i (both h .1) (omega arith)
+
+-- a test of every row, at row i
+pub row-passes : (p : Row → Bool) → all p rows ≡ true → (i : ℕ) → i < 67 → p (rowAt i) ≡ true
+unfolding rowAt
+row-passes p t i h = all-at p rows (row I.Blank 0 0) i t h
+
+-- the rows from i on
+pub rows-from : (i end : ℕ) → i < end → end ≤ 67 → slice i end rows ≡ rowAt i ∷ slice (i + 1) end rows
+unfolding rowAt
+rows-from i end h k = slice-cons i end rows (row I.Blank 0 0) h k ∙ rw (add-one i)

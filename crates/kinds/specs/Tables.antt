@@ -2,6 +2,7 @@
 use mathlib.Core.Bool.{Bool, true, false}
 use mathlib.Core.List.{List, [], _∷_, _++_, map}
 use Prim.Native.Nat.{ℕ}
+use lib.ListN.{getD}
 use Rattle.rules.specs.Items.{each, orBlank, blank, constant, number, height, angle, month, media, word}
 use Rattle.rules.specs.Items as rules
 use Rattle.rules.specs.Fields.{free, notBefore, goesWith, expected, Field}
@@ -87,6 +88,10 @@ concat (x ∷ xs) = x ++ concat xs
 
 abbrev pub rows : List Row
 rows = concat rowLists
+
+-- row i of them all
+unfoldable pub rowAt : ℕ → Row
+rowAt i = getD rows i (row I.Blank 0 0)
 
 abbrev pub items : List Item
 items = map (λ r. r .item) rows

@@ -338,6 +338,13 @@ const WIDTHS: [u8; 67] = [
 // Where the fields of each kind begin, and where the last kind's end.
 const STARTS: [u8; 15] = [0, 1, 2, 3, 13, 20, 21, 27, 34, 41, 48, 64, 65, 66, 67];
 
+// A number of the tables as an index.
+pub fn wide(b: u8) -> usize
+    ensures { λ r. ⌜ r ≡ b ⌝ }
+{
+    b as usize
+}
+
 pub fn item_at(i: usize) -> Item
     requires { ⌜ i < 67 ⌝ }
     ensures { λ r. ⌜ r ≡ getD items i Item.Blank ⌝ }

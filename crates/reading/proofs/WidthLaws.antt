@@ -1,22 +1,20 @@
 -- The width of the field that starts at a column: the look-up by rows, and where such a field lies.
-use mathlib.Core.Path.{_≡_, refl, sym, _∙_, ap, subst}
+use mathlib.Core.Path.{_≡_, refl, sym, _∙_, ap}
 use mathlib.Core.Bool.{Bool, true, false, cond, false≢true}
-use mathlib.Core.List.{List, [], _∷_, map}
+use mathlib.Core.List.{List, [], _∷_}
 use Prim.Native.Nat.{ℕ, zero, suc, _+_, _-_, _≤_, _<_}
-use native.Mathlib.Numerals.{add-one}
 use native.Mathlib.Omega.{arith}
-use lib.ListN.{length, getD}
-use lib.Seq.{slice, slice-cons, slice-empty}
+use lib.ListN.{getD}
+use lib.Seq.{slice, slice-empty}
 use Rattle.rules.specs.Tests.{all, _&_, _≤?_, _=?_}
 use Rattle.rules.specs.Items.{Item, blank, constant, number, height, angle, month, media, word, latitude, longitude, columns, width, parts}
 use Rattle.rules.specs.Fields.{Field, covers}
 use Rattle.rules.specs.Layouts.{at, tied, station, instrument, antenna, initials, state, anyText, metres, letterOrBlank, kept, titled, project, occupation, comment, measurement, receiver, aerial, point, heights, layouts}
 use Rattle.rules.specs.Calls.{partWidth, fieldWidth}
-use Rattle.rules.proofs.Truth.{both, and, to≤, of≤, to≡, of≡, no≡, of≢, cases}
-use Rattle.kinds.specs.declared.tables.Item.the-variants as I
-use Rattle.kinds.specs.declared.tables.Bond.the-variants as B
-use Rattle.kinds.specs.Tables.{Row, row, rowLists, rows, starts, firsts, widths}
-use Rattle.kinds.proofs.TableLaws.{each-kind, Begins, begins}
+use Rattle.rules.proofs.Truth.{both, and, to≤, to≡, of≡, no≡, of≢, cases}
+use Rattle.rules.proofs.FieldLaws.{covers-end}
+use Rattle.kinds.specs.Tables.{Row, rowLists, rows, starts, firsts, widths}
+use Rattle.kinds.proofs.TableLaws.{each-kind, begins, first-is, width-is, rows-from}
 use Rattle.reading.specs.Widths.{rowWidth, plainWidth}
 
 -- ---- fields of one part
@@ -102,24 +100,13 @@ seek-from c kind h s p end q t p′ i q′ =
     let b = begins kind h in
     rw (q, p, q′, p′) record { low = b .low; high = b .high; same = ap (rowWidth c) (b .whole) }
 
-row-at : (rs : List Row) (i : ℕ) → i < length rs → (getD rs i (row I.Blank 0 0) .first ≡ getD (map (λ r. r .first) rs) i 0) × (getD rs i (row I.Blank 0 0) .width ≡ getD (map (λ r. r .width) rs) i 0)
-row-at [] i k = absurd (omega arith)
-row-at (r ∷ rs) zero k = (refl, refl)
-row-at (r ∷ rs) (suc i) k = row-at rs i (omega arith)
-
-rows-67 : length rows ≡ 67
-rows-67 = refl
-
 module _ {c kind end i : ℕ} (v : Sought c kind end i) (h : i < end) where
   pub below : i < 67
   below = omega (arith, v .high)
 
   step : rowWidth c (slice i end rows) ≡ cond (c =? getD firsts i 0) (getD widths i 0) (rowWidth c (slice (i + 1) end rows))
   unfolding rowWidth
-  step =
-      let k : i < length rows = omega (arith, v .high, rows-67) in
-      let cut : slice i end rows ≡ getD rows i (row I.Blank 0 0) ∷ slice (i + 1) end rows = slice-cons i end rows (row I.Blank 0 0) h (omega (arith, v .high, rows-67)) ∙ rw (add-one i) in
-      ap (rowWidth c) cut ∙ rw (row-at rows i k .0, row-at rows i k .1)
+  step = ap (rowWidth c) (rows-from i end h (v .high)) ∙ rw (first-is i, width-is i)
 
   module _ (f : ℕ) (p : f ≡ getD firsts i 0) (g : ℕ) (q : g ≡ f) where
     pub seek-found : c ≡ g → (w : ℕ) → w ≡ getD widths i 0 → (r : ℕ) → r ≡ w → r ≡ rowWidth c (getD rowLists kind [])
@@ -239,11 +226,6 @@ part-inside c d (w ∷ ws) h =
     cases (c =? d)
     (λ e. (omega (arith, to≡ e), rw e (omega (arith, to≡ e))))
     (λ e. let k = part-inside c (d + w) ws (rw e at h) in (omega (arith, k .0), rw e (omega (arith, k .1))))
-
-covers-end : (d : ℕ) (fs : List Field) → covers d fs ≡ true → d ≤ 81
-unfolding covers
-covers-end d [] h = omega (arith, to≡ h)
-covers-end d (f ∷ fs) h = let k : d + width (f .item) ≤ 81 = covers-end (d + width (f .item)) fs (both h .1) in omega arith
 
 pub field-inside : (c d : ℕ) (fs : List Field) → covers d fs ≡ true → 1 ≤ fieldWidth c fs → (d ≤ c) × (c + fieldWidth c fs ≤ 81)
 unfolding fieldWidth covers

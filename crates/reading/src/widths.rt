@@ -2,6 +2,7 @@
 use kinds::Point;
 use kinds::tables::first_at;
 use kinds::tables::start_at;
+use kinds::tables::wide;
 use kinds::tables::width_at;
 ghost use mathlib.Core.Path.{_≡_};
 ghost use mathlib.Core.List.{[]};
@@ -11,12 +12,6 @@ ghost use Rattle.rules.specs.Layouts.{layouts, kept, point};
 ghost use Rattle.rules.specs.Calls.{fieldWidth};
 ghost use Rattle.kinds.specs.Tables.{rowLists};
 ghost use Rattle.reading.specs.Widths.{rowWidth, plainWidth};
-
-fn wide(b: u8) -> usize
-    ensures { λ r. ⌜ r ≡ b ⌝ }
-{
-    b as usize
-}
 
 // A control point has the only angles, and an angle and its letter are two fields in one row of the tables.
 fn point_width(column: usize) -> usize

@@ -17,6 +17,7 @@ use Rattle.rules.specs.Layouts.{at, tied, station, instrument, antenna, initial
 use Rattle.rules.specs.Chapter4.{chapter4}
 use Rattle.rules.proofs.Truth.{both, to≤, to≡, of≢, cases, to-within}
 use Rattle.columns.specs.Types.{natOf, intOf, heightOf, heightValue, mediaOf, mediaValue, four, fourOf}
+use Rattle.columns.proofs.LabelLaws.{four-back}
 use Rattle.kinds.specs.Values.{textOf, two, twoText, three, threeText, charOf, codeOf, valuesOf, meaningOf, recordFrom, recordOf}
 use Rattle.round_trips.specs.Texts.{longTexts}
 
@@ -83,15 +84,6 @@ height-back may f g missing h = (refl, λ vs. refl)
 height-back may f g (num k) h = (refl, λ vs. refl)
 height-back may f g (text t) h = absurd (false≢true h)
 height-back may f g (label m d y s t) h = absurd (false≢true h)
-
-four-back : (t : List ℕ) → length t ≡ 4 → fourOf (four t) ≡ t
-unfolding fourOf four
-four-back [] h = absurd (omega (arith, h))
-four-back (a ∷ []) h = absurd (omega (arith, h))
-four-back (a ∷ b ∷ []) h = absurd (omega (arith, h))
-four-back (a ∷ b ∷ c ∷ []) h = absurd (omega (arith, h))
-four-back (a ∷ b ∷ c ∷ d ∷ []) h = refl
-four-back (a ∷ b ∷ c ∷ d ∷ e ∷ t) h = absurd (omega (arith, h))
 
 mark-four : (m d y s : ℕ) (t : List ℕ) → isMedia m d y s t ≡ true → length t ≡ 4
 unfolding isMedia
@@ -170,11 +162,11 @@ all-back (f ∷ fs) (v ∷ vs) e h =
     (rw (one .0, rest .0), one .1 vs ∙ rw (rest .1))
 
 -- ---- for each number below n, and for all from n on
-unfoldable pub Upto : ℕ → (ℕ → Type 0) → Type 0
+unfoldable Upto : ℕ → (ℕ → Type 0) → Type 0
 Upto zero P = (k : ℕ) → P k
 Upto (suc n) P = P 0 × Upto n (λ k. P (suc k))
 
-pub upto : (n : ℕ) (P : ℕ → Type 0) → Upto n P → (k : ℕ) → P k
+upto : (n : ℕ) (P : ℕ → Type 0) → Upto n P → (k : ℕ) → P k
 unfolding Upto
 upto zero P h k = h k
 upto (suc n) P h zero = h .0

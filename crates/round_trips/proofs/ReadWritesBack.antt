@@ -25,9 +25,10 @@ use Rattle.kinds.specs.declared.Record.the-variants as R
 use Rattle.kinds.specs.declared.Reading.{Reading}
 use Rattle.kinds.specs.declared.Written.{Written}
 use Rattle.kinds.specs.Values.{sequenceOf, sequenceValue, kindNumber, recordFrom, recordOf, meaningOf, readingOf, writtenOf}
+use Rattle.kinds.proofs.TableLaws.{each-kind}
 use Rattle.writing.proofs.WriteLaws.{Promised}
 use Rattle.round_trips.specs.Texts.{longTexts}
-use Rattle.round_trips.proofs.MeaningBack.{Upto, upto, meaning-back}
+use Rattle.round_trips.proofs.MeaningBack.{meaning-back}
 
 -- a sequence number by way of its type
 number-back : (v : Value) → fits sequence v ≡ true → sequenceValue (sequenceOf v) ≡ v
@@ -41,10 +42,8 @@ number-back (label m d y s t) h = cc
 
 -- the record of a kind is of that kind
 kind-from : (k : ℕ) (c : List ℕ) (v : ℕ → Value) → k ≤ 13 → kindNumber (recordFrom k c v) ≡ k
-unfolding Upto kindNumber recordFrom
-kind-from k c v =
-    upto 14 (λ k. k ≤ 13 → kindNumber (recordFrom k c v) ≡ k)
-    ((λ h. refl), ((λ h. refl), ((λ h. refl), ((λ h. refl), ((λ h. refl), ((λ h. refl), ((λ h. refl), ((λ h. refl), ((λ h. refl), ((λ h. refl), ((λ h. refl), ((λ h. refl), ((λ h. refl), ((λ h. refl), (λ k h. absurd (omega (arith, h))))))))))))))))) k
+unfolding kindNumber recordFrom
+kind-from k c v h = each-kind (λ k. kindNumber (recordFrom k c v) ≡ k) refl refl refl refl refl refl refl refl refl refl refl refl refl refl k (omega (arith, h))
 
 -- ---- read's answer, taken apart
 module _ (s : Sequence) (w : Record) where

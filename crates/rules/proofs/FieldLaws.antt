@@ -112,6 +112,11 @@ module _ where
 render-width : (f : Field) (v : Value) → fits (f .item) v ≡ true → length (render (f .item) v) ≡ width (f .item)
 render-width f v h = lawful (f .item) v h .sized
 
+pub covers-end : (c : ℕ) (fs : List Field) → covers c fs ≡ true → c ≤ 81
+unfolding covers
+covers-end c [] h = omega (arith, to≡ h)
+covers-end c (f ∷ fs) h = omega (arith, covers-end (c + width (f .item)) fs (both h .1))
+
 pub renders-length : (c : ℕ) (fs : List Field) (vs : List Value) → covers c fs ≡ true → fitting fs vs ≡ true → c + length (renders fs vs) ≡ 81
 unfolding covers renders
 renders-length c [] vs h k = omega (arith, to≡ h)

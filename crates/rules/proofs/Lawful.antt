@@ -265,7 +265,7 @@ unfolding top columns
 dms-top latitude m h = dms-lt m h
 dms-top longitude m h = dms-lt′ m h
 
-low-top : (way : Way) → low way ≤ top way
+pub low-top : (way : Way) → low way ≤ top way
 unfolding low top
 low-top latitude = omega arith
 low-top longitude = omega arith

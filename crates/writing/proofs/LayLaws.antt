@@ -19,6 +19,7 @@ use Rattle.rules.proofs.Truth.{both, and, to≤, of≤, to≡, of≡, cases}
 use Rattle.rules.proofs.Chapter4Laws.{layout-covers, sound}
 use Rattle.rules.proofs.DigitLaws.{length-put}
 use Rattle.rules.proofs.Lawful.{lawful}
+use Rattle.rules.proofs.FieldLaws.{covers-end}
 use Rattle.columns.specs.declared.Count.{Count}
 use Rattle.columns.specs.declared.Height.{Height}
 use Rattle.columns.specs.Types.{countValue, heightValue}
@@ -123,11 +124,6 @@ laid-on {P} {l} {n} ys c w v e d p q =
     let s : n < length l = omega (arith, v .whole) in
     let t : n + w ≤ length l = omega (arith, v .whole) in
     record { is = lay-take c n w ys l e d s t ∙ rw (v .is); whole = lay-length c ys l ∙ v .whole }
-
-covers-end : (c : ℕ) (fs : List Field) → covers c fs ≡ true → c ≤ 81
-unfolding covers
-covers-end c [] h = omega (arith, to≡ h)
-covers-end c (f ∷ fs) h = omega (arith, covers-end (c + width (f .item)) fs (both h .1))
 
 -- the fields from the next column on
 pub laid-fields : {P l : List ℕ} (n : ℕ) (fs : List Field) (vs : List Value) → Laid P n l → covers (n + 1) fs ≡ true → length vs ≡ length fs

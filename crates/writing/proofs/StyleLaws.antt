@@ -2,14 +2,13 @@
 use mathlib.Core.Path.{_≡_, refl, sym, ap, ap₂, _∙_}
 use mathlib.Core.Bool.{Bool, true, false, cond, false≢true}
 use mathlib.Core.List.{List, [], _∷_, _++_, map, append-nil, append-assoc}
-use Prim.Native.Nat.{ℕ, zero, suc, _+_, _-_, _*_, _/_, _%_, _≤_, _<_}
+use Prim.Native.Nat.{ℕ, suc, _+_, _-_, _*_, _/_, _%_, _≤_, _<_}
 use native.Mathlib.Nat.{add-sub-cancel-left}
-use native.Mathlib.Numerals.{add-one}
 use native.Mathlib.Omega.{arith}
 use lib.Dec.{lit≤}
 use lib.IntN.{pos}
-use lib.ListN.{length, getD, take, drop, replicate, take-append-drop, length-drop, List·getD-map}
-use lib.Seq.{slice, slice-cons, slice-empty, take-add, length-take-le, drop-cons, drop-drop}
+use lib.ListN.{length, getD, take, drop, replicate, take-append-drop, length-drop}
+use lib.Seq.{slice, slice-empty, take-add, length-take-le, drop-cons, drop-drop}
 use borrow.Rule.Slice.PartMut.{putMid}
 use Rattle.rules.specs.Tests.{_&_, _≤?_, _=?_, all}
 use Rattle.rules.specs.Characters.{isDigit, isBlank}
@@ -26,11 +25,11 @@ use Rattle.rules.proofs.RecordLaws.{line-meant}
 use Rattle.columns.specs.Types.{wayOf, countOf, countValue, heightOf, heightValue, intOf}
 use Rattle.columns.specs.Leaves.{heightColumns}
 use Rattle.kinds.specs.declared.tables.Item.the-variants as I
-use Rattle.kinds.specs.Tables.{Row, row, rows, rowLists, items, firsts, widths, starts, itemOf, fieldOf}
+use Rattle.kinds.specs.Tables.{Row, rows, rowLists, rowAt, items, firsts, widths, starts, itemOf, fieldOf}
 use Rattle.kinds.specs.declared.tables.Item as tables-item
-use Rattle.kinds.proofs.TableLaws.{rows-are-layouts, each-kind, begins}
+use Rattle.kinds.proofs.TableLaws.{rows-are-layouts, each-kind, begins, item-is, first-is, width-is, row-passes, rows-from}
 use Rattle.writing.specs.Laying.{roomy, lay, layFields}
-use Rattle.writing.specs.Styling.{styleOf, numberStyle, heightStyle, angleStyle, narrow, rowAt, goodRow, styleRow, goodRows, styleRows}
+use Rattle.writing.specs.Styling.{styleOf, numberStyle, heightStyle, angleStyle, narrow, goodRow, styleRow, goodRows, styleRows}
 use Rattle.writing.proofs.LayLaws.{line-laid, lay-length, lay-put, fits-room, written-is}
 
 -- ---- digits as they stand
@@ -158,12 +157,6 @@ all-fine : all fineRow rows ≡ true
 unfolding all fineRow fieldOf width columns narrow wayOf _&_ _≤?_ _=?_
 all-fine = refl
 
-all-at : (p : Row → Bool) (l : List Row) (d : Row) (i : ℕ) → all p l ≡ true → i < length l → p (getD l i d) ≡ true
-unfolding all
-all-at p [] d i h k = absurd (omega arith)
-all-at p (x ∷ xs) d zero h k = both h .0
-all-at p (x ∷ xs) d (suc i) h k = all-at p xs d i (both h .1) (omega arith)
-
 record Fine (r : Row) : Type 0 where
   low : 1 ≤ r .first
   high : r .first - 1 + r .width ≤ 80
@@ -175,21 +168,7 @@ unfolding fineRow
 fine-row r t = record { low = to≤ (both (both (both t .0) .0) .0); high = to≤ (both (both (both t .0) .0) .1); wide = to≡ (both (both t .0) .1); slim = both t .1 }
 
 row-fine : (i : ℕ) → i < 67 → Fine (rowAt i)
-unfolding rowAt
-row-fine i h = fine-row (rowAt i) (all-at fineRow rows (row I.Blank 0 0) i all-fine h)
-
-module _ (i : ℕ) where
-  first-is : getD firsts i 0 ≡ rowAt i .first
-  unfolding rowAt
-  first-is = List·getD-map (λ (r : Row). r .first) rows i (row I.Blank 0 0)
-
-  width-is : getD widths i 0 ≡ rowAt i .width
-  unfolding rowAt
-  width-is = List·getD-map (λ (r : Row). r .width) rows i (row I.Blank 0 0)
-
-  item-is : getD items i I.Blank ≡ rowAt i .item
-  unfolding rowAt
-  item-is = List·getD-map (λ (r : Row). r .item) rows i (row I.Blank 0 0)
+row-fine i h = fine-row (rowAt i) (row-passes fineRow all-fine i h)
 
 pub first-low : (i f : ℕ) → i < 67 → f ≡ getD firsts i 0 → 1 ≤ f
 first-low i f h e = rw (e ∙ first-is i) (row-fine i h .low)
@@ -252,8 +231,7 @@ style-from line out kind end i lt l g p q =
 
 module _ {line out₀ out : List ℕ} {kind end i : ℕ} (v : Styled line out₀ kind end i out) (lt : i < end) where
   head : slice i end rows ≡ rowAt i ∷ slice (i + 1) end rows
-  unfolding rowAt
-  head = slice-cons i end rows (row I.Blank 0 0) lt (v .high) ∙ rw (add-one i)
+  head = rows-from i end lt (v .high)
 
   pub style-fine : goodRow line (rowAt i) ≡ true
   unfolding goodRows all

@@ -1,18 +1,16 @@
 -- A good line in house style, field by field.
-use mathlib.Core.Bool.{Bool, true, false, cond}
+use mathlib.Core.Bool.{Bool, true, cond}
 use mathlib.Core.List.{List, [], _∷_}
-use Prim.Native.Nat.{ℕ, zero, suc}
-use lib.IntN.{ℤ}
-use lib.ListN.{length, getD}
-use Rattle.rules.specs.Tests.{_&_, _≤?_, all}
+use Prim.Native.Nat.{ℕ}
+use lib.ListN.{length}
+use Rattle.rules.specs.Tests.{_≤?_, all}
 use Rattle.rules.specs.Items.{Item, Way, blank, constant, number, height, angle, month, media, word, num, valueOf, render, good}
-use Rattle.rules.specs.Fields.{Field, columnsOf}
+use Rattle.rules.specs.Fields.{columnsOf}
 use Rattle.columns.specs.declared.Count.{Count}
 use Rattle.columns.specs.declared.Height.{Height}
 use Rattle.columns.specs.Types.{countOf, countValue, heightOf, intOf}
 use Rattle.columns.specs.Leaves.{written, heightColumns}
-use Rattle.kinds.specs.declared.tables.Item.the-variants as I
-use Rattle.kinds.specs.Tables.{Row, row, rows, fieldOf}
+use Rattle.kinds.specs.Tables.{Row, fieldOf}
 use Rattle.writing.specs.Laying.{lay}
 
 -- ---- one field
@@ -41,9 +39,6 @@ narrow media = true
 narrow (word w t) = true
 
 -- ---- rows of the tables
-unfoldable pub rowAt : ℕ → Row
-rowAt i = getD rows i (row I.Blank 0 0)
-
 unfoldable pub goodRow : List ℕ → Row → Bool
 goodRow l r = good (fieldOf r .item) (columnsOf (fieldOf r) l)
 

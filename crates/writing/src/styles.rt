@@ -15,6 +15,7 @@ use kinds::tables::Item;
 use kinds::tables::first_at;
 use kinds::tables::item_at;
 use kinds::tables::start_at;
+use kinds::tables::wide;
 use kinds::tables::width_at;
 ghost use mathlib.Core.Path.{_≡_};
 ghost use mathlib.Core.List.{[]};
@@ -27,8 +28,8 @@ ghost use Rattle.rules.specs.Records.{codeAt, formedLine, meaning, lineOf};
 ghost use Rattle.rules.specs.Kinds.{kindOf};
 ghost use Rattle.rules.specs.Chapter4.{chapter4};
 ghost use Rattle.columns.specs.Types.{wayOf};
-ghost use Rattle.kinds.specs.Tables.{itemOf, rowLists};
-ghost use Rattle.writing.specs.Styling.{numberStyle, heightStyle, angleStyle, narrow, styleOf, goodRow, goodRows, styleRow, styleRows, rowAt};
+ghost use Rattle.kinds.specs.Tables.{itemOf, rowLists, rowAt};
+ghost use Rattle.writing.specs.Styling.{numberStyle, heightStyle, angleStyle, narrow, styleOf, goodRow, goodRows, styleRow, styleRows};
 
 fn style_number(part: &[u8], out: &mut [u8])
     ensures { λ _. ⌜ now (out .exit) ≡ numberStyle (length (now (out .entry))) (now (part .entry)) ⌝ }
@@ -76,12 +77,6 @@ fn style_item(item: Item, part: &[u8], out: &mut [u8])
         Item::Name => put_text(out, part),
         Item::Printable => put_text(out, part),
     }
-}
-
-fn wide(b: u8) -> usize
-    ensures { λ r. ⌜ r ≡ b ⌝ }
-{
-    b as usize
 }
 
 // The field of row i of the tables.
