@@ -14,16 +14,16 @@ use Rattle.rules.specs.Characters.{isDigit}
 use Rattle.rules.specs.Digits.{val, put}
 use Rattle.rules.specs.Items as items
 use Rattle.rules.specs.Items.{angle, num, signed, angleOf, dms, dmsForm, columns, top, low, plus, minusOf, angleValue, onNumber, width, shape, valueOf, fits, render, good, angleDigits, spot}
-use Rattle.rules.proofs.Truth.{both, to≤, of≤, of≡, cases, &-assoc, &-comm, true-and}
+use Rattle.rules.proofs.Truth.{both, to≤, of≤, of≡, cases, &-assoc, &-comm, true-and, of≢, or-cond}
 use Rattle.rules.proofs.DigitLaws.{length-put}
 use Rattle.rules.proofs.Lawful.{low-top}
+use Rattle.rules.proofs.FileLaws.{length-take-most}
 use Rattle.columns.specs.Types.{wayOf, intOf}
 use Rattle.columns.specs.Leaves.{limitsOf, digitsUpTo, longFits, splitLongOf}
 use Rattle.columns.specs.declared.Way.{Way}
 use Rattle.columns.specs.declared.angles.Limits.{Limits}
 use Rattle.columns.specs.declared.signs.SplitLong.{SplitLong}
 use Rattle.columns.proofs.Loops.{&-is}
-use Rattle.columns.proofs.PartLaws.{other?, take-few}
 
 -- ---- the limits
 pub record Agrees (m : Limits) (w : items.Way) : Type 0 where
@@ -68,22 +68,18 @@ in-range w m l = cases (l =? minusOf w & m ≤? low w) (λ e. rw e (neg m (to≤
 
 letter-is : (l p q : ℕ) → (eqb l p || eqb l q) ≡ cond (l =? p) true (l =? q)
 unfolding _=?_
-letter-is l p q = go (eqb l p) (eqb l q)
-  where
-    go : (a b : Bool) → (a || b) ≡ cond a true b
-    go true b = refl
-    go false b = refl
+letter-is l p q = or-cond (eqb l p) (eqb l q)
 
 swap : (a b c : Bool) → (a & b & c) ≡ (a & c & b)
 swap a b c = &-assoc a b c ∙ ap (λ t. a & t) (&-comm b c) ∙ sym (&-assoc a c b)
 
 module _ {m : Limits} {w : items.Way} (a : Agrees m w) (bs : List ℕ) where
   short : length (take (columns w) bs) ≤ 16
-  short = omega (arith, take-few (columns w) bs, columns-few w)
+  short = omega (arith, length-take-most (columns w) bs, columns-few w)
 
   pub angle-wide : (length bs ≡ m .columns + 1 → ⊥) → false ≡ good (angle w) bs
   unfolding good width _&_
-  angle-wide h = sym (rw (other? {m = length bs} {n = suc (columns w)} (λ e. h (omega (arith, e, a .wide)))))
+  angle-wide h = sym (rw (of≢ {m = length bs} {n = suc (columns w)} (λ e. h (omega (arith, e, a .wide)))))
 
   pub angle-good : {r : Bool} {l : ℕ} → length bs ≡ m .columns + 1 → r ≡ (length (take (m .columns) bs) ≤? 16 & digitsUpTo (m .top) (take (m .columns) bs))
       → l ≡ getD bs (m .columns) 0 → (r && (eqb l (m .plus) || eqb l (m .minus))) ≡ good (angle w) bs

@@ -1,6 +1,6 @@
 -- What is left to judge of blanks, constants and words once the width is the slice's own. Assumes nothing.
 use mathlib.Core.Path.{_≡_, refl, sym, ap, _∙_}
-use mathlib.Core.Bool.{Bool, true, false, cond, _&&_, _||_}
+use mathlib.Core.Bool.{Bool, true, false, _&&_, _||_}
 use mathlib.Core.List.{List, [], _∷_}
 use Prim.Native.Nat.{ℕ}
 use lib.Dec.{leb, eqb}
@@ -8,7 +8,7 @@ use lib.ListN.{length}
 use Rattle.rules.specs.Tests.{_&_, _≤?_, _=?_, within, all}
 use Rattle.rules.specs.Characters.{Set, isPrintable, isBlank, member}
 use Rattle.rules.specs.Items.{blank, constant, word, each, orBlank, Test, passes, onGap, onText, width, shape, valueOf, fits, good}
-use Rattle.rules.proofs.Truth.{of≡, and-true}
+use Rattle.rules.proofs.Truth.{of≡, and-true, or-cond}
 use Rattle.columns.proofs.Loops.{&-is}
 
 pub same-size : (bs : List ℕ) → (length bs =? length bs) ≡ true
@@ -34,10 +34,6 @@ good-test t bs = rw (same-size bs) (twice (passes t bs))
 pub good-each : (s : Set) (bs : List ℕ) → all (member s) bs ≡ good (word (length bs) (each s)) bs
 unfolding passes
 good-each s bs = good-test (each s) bs
-
-or-cond : (a b : Bool) → (a || b) ≡ cond a true b
-or-cond true b = refl
-or-cond false b = refl
 
 pub good-or-blank : (s : Set) (bs : List ℕ) {r q : Bool} → r ≡ all isBlank bs → q ≡ all (member s) bs → (r || q) ≡ good (word (length bs) (orBlank s)) bs
 unfolding passes

@@ -12,13 +12,12 @@ use Rattle.rules.specs.Tests.{_&_, _≤?_, _=?_, within, all}
 use Rattle.rules.specs.Digits.{val, put}
 use Rattle.rules.specs.Characters.{isPrintable, isDigit, isLetter, letter, digit, _or_, member}
 use Rattle.rules.specs.Items.{month, media, num, label, isMonth, isMedia, onNumber, onLabel, width, shape, valueOf, fits, render, good}
-use Rattle.rules.proofs.Truth.{true-and, both, of≡, to≡, to≤, no≡, cases}
+use Rattle.rules.proofs.Truth.{true-and, both, of≡, to≡, to≤, no≡, cases, of≢, or-cond}
 use Rattle.columns.specs.Types.{four, fourOf, mediaOf, mediaValue}
 use Rattle.columns.specs.Leaves.{written}
 use Rattle.columns.specs.declared.Four.{Four}
 use Rattle.columns.specs.declared.Media.{Media}
 use Rattle.columns.proofs.Loops.{&-is}
-use Rattle.columns.proofs.PartLaws.{other?}
 use Rattle.columns.proofs.WriteLaws.{kept-wide, now-written}
 
 pub month-is : (n : ℕ) → ((leb 1 (n / 100) && leb (n / 100) 9_999) && (leb 1 (n % 100) && leb (n % 100) 12)) ≡ fits month (num (pos n))
@@ -33,13 +32,9 @@ four-long : (t : Four) → (length (fourOf t) =? 4) ≡ true
 unfolding fourOf _=?_
 four-long t = refl
 
-either : (a b : Bool) → cond a true b ≡ (a || b)
-either true b = refl
-either false b = refl
-
 session-is : (s : ℕ) → (leb 65 s && leb s 90 || leb 48 s && leb s 57) ≡ member (letter or digit) s
 unfolding member isLetter isDigit within _≤?_
-session-is s = sym (either (65 ≤? s & s ≤? 90) (48 ≤? s & s ≤? 57) ∙ simp &-is)
+session-is s = sym (sym (or-cond (65 ≤? s & s ≤? 90) (48 ≤? s & s ≤? 57)) ∙ simp &-is)
 
 pub media-is : (m : Media) {r : Bool} → r ≡ all isPrintable (fourOf (m .mark))
     → ((leb 65 (m .maker) && leb (m .maker) 90) && (leb 1 (m .day) && leb (m .day) 366) && leb (m .year) 9 && (leb 65 (m .session) && leb (m .session) 90 || leb 48 (m .session) && leb (m .session) 57) && r)
@@ -72,7 +67,7 @@ four-back (a ∷ b ∷ c ∷ d ∷ e ∷ t) h = absurd (omega arith)
 
 pub media-wide : (bs : List ℕ) → (length bs ≡ 10 → ⊥) → false ≡ good media bs
 unfolding good width _&_
-media-wide bs h = sym (rw (other? h))
+media-wide bs h = sym (rw (of≢ h))
 
 pub media-good : (bs : List ℕ) {a r : Bool} {m : Media} → length bs ≡ 10 → a ≡ all (within 48 57) (take 4 (drop 1 bs)) → m ≡ mediaOf (valueOf media bs)
     → r ≡ fits media (mediaValue m) → (a && r) ≡ good media bs
@@ -96,7 +91,7 @@ pub media-put : (m : Media) (old new : List ℕ) {a b c : ℕ} → a ≡ 48 + m 
 media-put m old new p q r h e =
     cases (length old =? 10)
     (λ k. now-written media (mediaValue m) old (to≡ k ∙ sym media-long) h (e ∙ rw (of≡ (sym (to≡ k)), p, q, r) (unfold render onLabel mediaValue fourOf in sym (ap (λ l. m .maker ∷ l) (put-three (m .day) _)))))
-    (λ k. e ∙ rw (other? {m = 10} {n = length old} (λ z. no≡ k (sym z))) (kept-wide media (mediaValue m) old (λ z. no≡ k (z ∙ media-long))))
+    (λ k. e ∙ rw (of≢ {m = 10} {n = length old} (λ z. no≡ k (sym z))) (kept-wide media (mediaValue m) old (λ z. no≡ k (z ∙ media-long))))
 
 pub year-small : (m : Media) → fits media (mediaValue m) ≡ true → m .year ≤ 9
 unfolding fits onLabel mediaValue isMedia

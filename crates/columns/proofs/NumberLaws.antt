@@ -2,7 +2,7 @@
 use mathlib.Core.Path.{_≡_, refl, sym, ap, _∙_, subst}
 use mathlib.Core.Bool.{Bool, true, false, cond, not, _&&_, _||_, and-false, or-true, or-false, false≢true}
 use mathlib.Core.List.{List, [], _∷_}
-use Prim.Native.Nat.{ℕ, zero, suc, _+_, _-_, _*_, _^_, _≤_, _<_}
+use Prim.Native.Nat.{ℕ, suc, _+_, _-_, _*_, _^_, _≤_, _<_}
 use native.Mathlib.Omega.{arith}
 use lib.Dec.{leb, eqb}
 use lib.ListN.{length, getD}
@@ -11,9 +11,10 @@ use lib.IntN.{ℤ, pos, negsuc, negℤ}
 use Rattle.rules.specs.Tests.{_&_, _≤?_, _=?_, within, all}
 use Rattle.rules.specs.Characters.{isBlank, isDigit}
 use Rattle.rules.specs.Digits.{val}
-use Rattle.rules.specs.Items.{numForm, heightForm, minus, signed, number, height, missing, num, onNumber, width, shape, valueOf, fits, good}
+use Rattle.rules.specs.Items.{numForm, heightForm, minus, number, height, missing, onNumber, width, shape, valueOf, fits, good}
 use Rattle.rules.proofs.Truth.{both, and, to≤, of≤, to≡, of≡, to-within, is-no, cases, and-true, not-both, all-weaken}
 use Rattle.rules.proofs.DigitLaws.{notAbove9, val-lt}
+use Rattle.rules.proofs.FormLaws.{digit-low, up, down}
 use Rattle.columns.specs.Leaves.{formed, lastOf}
 use Rattle.columns.proofs.Loops.{&-is, pow-most}
 use Rattle.columns.proofs.ItemLaws.{same-size}
@@ -90,10 +91,6 @@ unfolding lastOf _&_
 last-tells m bs h = last-from m 32 bs h ∙ rw 32-is-32
 
 -- ---- what has the form fits its width
-digit-low : (b : ℕ) → isDigit b ≡ true → notAbove9 b ≡ true
-unfolding isDigit notAbove9
-digit-low b h = of≤ (to-within h .1)
-
 is-low : (b k : ℕ) → k ≤ 57 → b =? k ≡ true → notAbove9 b ≡ true
 unfolding notAbove9
 is-low b k l e = of≤ (omega (arith, to≡ e))
@@ -162,17 +159,6 @@ minus-lt (b ∷ bs) h k =
     wider : heightForm bs ≡ true → minus bs ≡ true → b =? 32 ≡ true → val 0 bs < 10 ^ (length bs - 1) → val 0 (b ∷ bs) < 10 ^ (length (b ∷ bs) - 1)
     wider _ _ e l = rw (first (omega (arith, to≡ e)), less) (omega (arith, l, pow-most (length bs - 1) (length bs) (omega arith)))
 
-module _ (w : ℕ) (may : Bool) where
-  -- what a sign makes of a size that fits
-  plus-fits : (n : ℕ) → 1 ≤ w → n < 10 ^ w → fits (height w may) (num (signed false n)) ≡ true
-  unfolding fits onNumber signed
-  plus-fits n h k = and (of≤ h) (of≤ k)
-
-  minus-fits : (n : ℕ) → 1 ≤ w → n < 10 ^ (w - 1) → fits (height w may) (num (signed true n)) ≡ true
-  unfolding fits onNumber signed
-  minus-fits zero h k = and (of≤ h) (of≤ (omega (arith, pow-most (w - 1) w (omega arith))))
-  minus-fits (suc n) h k = and (of≤ h) (of≤ k)
-
 module _ (may : Bool) (bs : List ℕ) where
   height-fits : formed 45 32 bs ≡ true → fits (height (length bs) may) (valueOf (height (length bs) may) bs) ≡ cond (all isBlank bs) may true
   unfolding valueOf
@@ -180,8 +166,8 @@ module _ (may : Bool) (bs : List ℕ) where
       cases (all isBlank bs) (λ e. rw e (unfold fits onNumber in refl))
       (λ e. rw e
       (cases (minus bs)
-      (λ m. rw m (minus-fits (length bs) may (val 0 bs) (some bs e) (minus-lt bs (sym (height-form bs) ∙ h) m)))
-      (λ m. rw m (plus-fits (length bs) may (val 0 bs) (some bs e) (form-lt 45 bs (omega arith) h)))))
+      (λ m. rw m (down (length bs) may (val 0 bs) (some bs e) (minus-lt bs (sym (height-form bs) ∙ h) m)))
+      (λ m. rw m (up (length bs) may (val 0 bs) (some bs e) (form-lt 45 bs (omega arith) h)))))
 
   pub height-good : {f : Bool} {l : ℕ} → f ≡ formed 45 32 bs → l ≡ lastOf bs → (f && (may || not (eqb l 32))) ≡ good (height (length bs) may) bs
   unfolding good width shape

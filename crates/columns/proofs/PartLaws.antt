@@ -1,21 +1,13 @@
 -- Parts of a field, and tests that fail. Assumes nothing.
 use mathlib.Core.Path.{_≡_, refl, sym, ap, _∙_}
-use mathlib.Core.Bool.{Bool, true, false}
+use mathlib.Core.Bool.{Bool, true}
 use mathlib.Core.List.{List, [], _∷_}
-use Prim.Native.Nat.{ℕ, zero, suc, _+_, _-_, _≤_, _<_}
+use Prim.Native.Nat.{ℕ, _+_, _-_, _≤_}
 use native.Mathlib.Omega.{arith}
 use lib.ListN.{length, getD, take, drop, drop-of-length-le, length-drop}
 use lib.Seq.{drop-length, take-all, take-nil}
-use Rattle.rules.specs.Tests.{_≤?_, _=?_}
-use Rattle.rules.proofs.Truth.{is-no, to≤, to≡}
 use Rattle.columns.specs.Leaves.{lastOf}
 use Rattle.columns.proofs.Loops.{suc-less-one}
-
-pub above? : {m n : ℕ} → n < m → m ≤? n ≡ false
-above? {m} {n} h = is-no (m ≤? n) (λ e. omega (arith, to≤ e))
-
-pub other? : {m n : ℕ} → (m ≡ n → ⊥) → m =? n ≡ false
-other? {m} {n} h = is-no (m =? n) (λ e. h (to≡ e))
 
 module _ (f : List ℕ) (at k : ℕ) where
   pub cut-none : length f ≤ at → take (length f - length f) (drop (length f) f) ≡ take k (drop at f)
@@ -37,7 +29,3 @@ last-some [] h = absurd (h refl)
 last-some (b ∷ bs) h = rw suc-less-one
 
 -- a part has no more columns than it is asked for
-pub take-few : (n : ℕ) (l : List ℕ) → length (take n l) ≤ n
-take-few zero l = omega arith
-take-few (suc n) [] = omega arith
-take-few (suc n) (x ∷ l) = omega (arith, take-few n l)

@@ -46,7 +46,7 @@ split-long-back (negsuc n) = refl
 abbrev pub heightRead : List ℕ → Height
 heightRead bs = cond (length bs ≤? 7) (heightOf (valueOf (height 0 true) bs)) Height.Missing
 
-height-same : (h : Height) → heightOf (heightValue h) ≡ h
+pub height-same : (h : Height) → heightOf (heightValue h) ≡ h
 unfolding heightOf heightValue
 height-same Height.Missing = refl
 height-same (Height.Mm z) = refl

@@ -13,14 +13,13 @@ use Rattle.rules.specs.Tests.{_&_, _≤?_, _=?_, within, all}
 use Rattle.rules.specs.Characters.{isBlank, isDigit}
 use Rattle.rules.specs.Digits.{val, put}
 use Rattle.rules.specs.Items.{minus, signed, number, height, month, missing, num, onNumber, width, shape, valueOf, fits, render, good}
-use Rattle.rules.proofs.Truth.{of≤, to≡, cases}
+use Rattle.rules.proofs.Truth.{of≤, to≡, cases, of>}
 use Rattle.columns.specs.Types.{countOf, countValue, heightOf, heightValue, natOf}
 use Rattle.columns.specs.Leaves.{splitOf, splitFits, splitColumns, heightColumns, written}
 use Rattle.columns.specs.declared.Count.{Count}
 use Rattle.columns.specs.declared.Height.{Height}
 use Rattle.columns.specs.declared.signs.Split.{Split}
 use Rattle.columns.proofs.Loops.{&-is, suc-less-one}
-use Rattle.columns.proofs.PartLaws.{above?}
 
 -- ---- reading
 module _ (bs : List ℕ) {r : Bool} (e : r ≡ all isBlank bs) where
@@ -64,8 +63,8 @@ module _ (w lo hi : ℕ) (may : Bool) {x : Count} where
 
 pub split-none : (w : ℕ) (s : Split) → w < 1 → false ≡ splitFits w s
 unfolding splitFits _&_
-split-none w (Split.Plus n) h = rw (above? h)
-split-none w (Split.Minus n) h = rw (above? h)
+split-none w (Split.Plus n) h = rw (of> h)
+split-none w (Split.Minus n) h = rw (of> h)
 
 module _ (w : ℕ) {s : Split} {n : ℕ} {r : Bool} (h : 1 ≤ w) where
   pub split-plus : s ≡ Split.Plus n → r ≡ (suc n ≤? 10 ^ w) → r ≡ splitFits w s

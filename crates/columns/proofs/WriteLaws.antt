@@ -11,20 +11,19 @@ use borrow.Rule.Slice.PartMut.{midOf, putMid}
 use Rattle.rules.specs.Tests.{_&_, _=?_}
 use Rattle.rules.specs.Digits.{put}
 use Rattle.rules.specs.Items.{Item, Value, number, height, month, num, onNumber, width, fits, render}
-use Rattle.rules.proofs.Truth.{of≡, cases}
+use Rattle.rules.proofs.Truth.{of≡, cases, of≢}
 use Rattle.columns.specs.Types.{countValue, heightValue}
 use Rattle.columns.specs.Leaves.{splitOf, splitColumns, heightColumns, written}
 use Rattle.columns.specs.declared.Count.{Count}
 use Rattle.columns.specs.declared.Height.{Height}
 use Rattle.columns.specs.declared.signs.Split.{Split}
 use Rattle.columns.proofs.Loops.{suc-less-one}
-use Rattle.columns.proofs.PartLaws.{other?}
 
 -- ---- a writer that leaves what it cannot write
 module _ (i : Item) (v : Value) (old : List ℕ) where
   pub kept-wide : (length old ≡ width i → ⊥) → old ≡ written i v old
   unfolding written _&_
-  kept-wide h = sym (rw (other? h))
+  kept-wide h = sym (rw (of≢ h))
 
   pub kept-unfit : fits i v ≡ false → old ≡ written i v old
   unfolding written _&_

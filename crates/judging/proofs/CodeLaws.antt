@@ -13,17 +13,13 @@ use Rattle.rules.specs.Characters.{isDigit, isLetter, letter, digit, _or_, memb
 use Rattle.rules.specs.Digits.{val}
 use Rattle.rules.specs.Kinds.{dataCodes, kindFrom, starred, kindBetween, kindOf}
 use Rattle.rules.specs.Records.{codeAt}
-use Rattle.rules.proofs.Truth.{both, and, to-within, to≡, of≡, of≢, no≡, cases, is-no, not-both}
+use Rattle.rules.proofs.Truth.{both, and, to-within, to≡, of≡, of≢, no≡, cases, is-no, not-both, or-cond}
 use Rattle.judging.specs.Judging.{kindsFrom}
 
 pub and-is : (x y : Bool) → (x && y) ≡ x & y
 unfolding _&_
 and-is true y = refl
 and-is false y = refl
-
-or-is : (x y : Bool) → (x || y) ≡ cond x true y
-or-is true y = refl
-or-is false y = refl
 
 range-is : (lo hi b : ℕ) → (leb lo b && leb b hi) ≡ within lo hi b
 unfolding within _≤?_
@@ -37,7 +33,7 @@ pub job-is : (a b : ℕ) → ((leb 65 a && leb a 90) && ((leb 65 b && leb b 90) 
 unfolding isLetter isDigit member
 job-is a b =
     and-is (leb 65 a && leb a 90) ((leb 65 b && leb b 90) || (leb 48 b && leb b 57))
-    ∙ ap₂ _&_ (range-is 65 90 a) (or-is (leb 65 b && leb b 90) (leb 48 b && leb b 57) ∙ ap₂ (λ x y. cond x true y) (range-is 65 90 b) (range-is 48 57 b))
+    ∙ ap₂ _&_ (range-is 65 90 a) (or-cond (leb 65 b && leb b 90) (leb 48 b && leb b 57) ∙ ap₂ (λ x y. cond x true y) (range-is 65 90 b) (range-is 48 57 b))
 
 pub digits : (a b : ℕ) → isDigit a & isDigit b ≡ true → (48 ≤ a) × (a ≤ 57) × (48 ≤ b) × (b ≤ 57)
 unfolding isDigit

@@ -21,8 +21,9 @@ use Rattle.rules.proofs.Conforming.{bytes-of}
 use Rattle.kinds.specs.declared.Judged.{Judged}
 use Rattle.kinds.specs.declared.Expect.the-variants as X
 use Rattle.kinds.specs.Values.{judgedOf, expectOf}
+use Rattle.kinds.proofs.ValueLaws.{good-is}
 use Rattle.judging.specs.Judging.{clean}
-use Rattle.judging.proofs.RowLaws.{good-is, good-then, bad-then}
+use Rattle.judging.proofs.RowLaws.{good-then, bad-then}
 use Rattle.judging.proofs.CodeLaws.{and-is}
 
 module _ (l : List ℕ) where

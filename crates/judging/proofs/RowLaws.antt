@@ -2,7 +2,7 @@
 use mathlib.Core.Path.{_≡_, refl, sym, _∙_, ap}
 use mathlib.Core.Bool.{Bool, true, false}
 use mathlib.Core.List.{List, [], _∷_, map}
-use Prim.Native.Nat.{ℕ, zero, suc, _+_, _-_, _*_, _≤_, _<_}
+use Prim.Native.Nat.{ℕ, _+_, _-_, _*_, _≤_, _<_}
 use native.Mathlib.Omega.{arith}
 use lib.Dec.{lit≤}
 use lib.Seq.{slice, slice-empty}
@@ -11,9 +11,11 @@ use Rattle.rules.specs.Tests.{all, _&_, _≤?_, _=?_}
 use Rattle.rules.specs.Characters.{isBlank, letter, digit, space, only, _or_}
 use Rattle.rules.specs.Digits.{val}
 use Rattle.rules.specs.Items.{Test, each, number, height, month, word, columns, width, valueOf, good, spot}
-use Rattle.rules.specs.Fields.{Expect, Verdict, ok, fault, check, _⨾_, columnsOf, read, valueAt, numOf, isMissing, agreesWith, agrees, judgeEach, judge}
+use Rattle.rules.specs.Fields.{Expect, Verdict, ok, check, _⨾_, columnsOf, read, valueAt, numOf, isMissing, agreesWith, agrees, judgeEach, judge}
 use Rattle.rules.specs.Layouts.{at, tied, station, instrument, antenna, initials, state, anyText, metres, letterOrBlank, kept, titled, project, occupation, comment, measurement, receiver, aerial, point, heights, layouts}
 use Rattle.rules.proofs.Truth.{both, to≤, of≤, to≡, cases}
+use Rattle.rules.proofs.FieldLaws.{⨾-assoc}
+use Rattle.rules.proofs.FileLaws.{length-take-most}
 use Rattle.kinds.specs.declared.tables.Item.{Item}
 use Rattle.kinds.specs.declared.tables.Item.the-variants as I
 use Rattle.columns.specs.Types.{wayOf, setOf}
@@ -23,28 +25,14 @@ use Rattle.kinds.specs.Tables.{itemOf, Row, rowLists, rows, starts, items, bond
 use Rattle.kinds.specs.declared.Judged.{Judged}
 use Rattle.kinds.specs.Values.{judgedOf}
 use Rattle.kinds.proofs.TableLaws.{each-kind, begins, item-is, bond-is, first-is, width-is, row-passes, rows-from}
+use Rattle.kinds.proofs.ValueLaws.{good-is, bad-is}
 use Rattle.judging.specs.Judging.{part, numberIn, agreesIn, judgeRow, judgeRowAt, judgeRows, sized}
 
 -- ---- verdicts one after the other
-pub ⨾-assoc : (u v w : Verdict) → (u ⨾ v) ⨾ w ≡ u ⨾ (v ⨾ w)
-unfolding _⨾_
-⨾-assoc ok v w = refl
-⨾-assoc (fault n c) v w = refl
-
 then-on : (u v : Verdict) {w x : Verdict} → w ≡ x → (u ⨾ v) ⨾ w ≡ u ⨾ (v ⨾ x)
 then-on u v {w} e = ⨾-assoc u v w ∙ ap (λ y. u ⨾ (v ⨾ y)) e
 
 -- the answers of the code
-pub good-is : (v : Verdict) → judgedOf v ≡ Judged.Good → v ≡ ok
-unfolding judgedOf
-good-is ok e = refl
-good-is (fault n c) e = cc
-
-pub bad-is : (v : Verdict) (n c : ℕ) → judgedOf v ≡ Judged.Bad n c → v ≡ fault n c
-unfolding judgedOf
-bad-is ok n c e = cc
-bad-is (fault n′ c′) n c e = cc
-
 pub bad-then : (u v : Verdict) (n c : ℕ) → judgedOf u ≡ Judged.Bad n c → judgedOf (u ⨾ v) ≡ Judged.Bad n c
 unfolding _⨾_
 bad-then u v n c e = rw (bad-is u n c e) (unfold judgedOf in refl)
@@ -55,12 +43,7 @@ good-then u v e = rw (good-is u e)
 
 -- ---- what is compared: the columns tell the values
 few : (n : ℕ) (l : List ℕ) → n ≤ 16 → length (take n l) ≤? 16 ≡ true
-few n l h = of≤ (omega (arith, at-most n l))
-  where
-    at-most : (n : ℕ) (l : List ℕ) → length (take n l) ≤ n
-    at-most zero l = omega arith
-    at-most (suc n) [] = omega arith
-    at-most (suc n) (b ∷ l) = let k : length (take n l) ≤ n = at-most n l in omega arith
+few n l h = of≤ (omega (arith, length-take-most n l))
 
 number-in : (n : ℕ) (l : List ℕ) → n ≤ 16 → numberIn (take n l) ≡ val 0 (take n l)
 number-in n l h = rw (few n l h)

@@ -9,23 +9,31 @@ use Rattle.rules.specs.Tests.{_&_, _≤?_, _=?_, within}
 use Rattle.rules.specs.Characters.{ascii, isDigit, isLetter, member}
 use Rattle.rules.specs.Digits.{val}
 use Rattle.rules.specs.Items.{Value, gap}
+use Rattle.rules.specs.Fields.{Verdict, ok, fault}
 use Rattle.rules.specs.Kinds.{dataCodes, kindFrom, starred, kindBetween, kindOf}
-use Rattle.columns.specs.declared.Height.{Height}
-use Rattle.columns.specs.Types.{natOf, intOf, heightOf, heightValue, mediaOf, mediaValue, four, fourOf}
+use Rattle.columns.specs.Types.{natOf, intOf, mediaOf, mediaValue, four, fourOf}
+use Rattle.columns.proofs.RoundTrip.{height-same}
 use Rattle.kinds.specs.declared.Sequence.{Sequence}
+use Rattle.kinds.specs.declared.Judged.{Judged}
 use Rattle.kinds.specs.declared.Record.{Record}
 use Rattle.kinds.specs.declared.Record.the-variants as R
-use Rattle.kinds.specs.Values.{textOf, two, twoText, three, threeText, sequenceOf, sequenceValue, kindNumber, codeOf, valuesOf, meaningOf, charOf, recordFrom, recordOf}
+use Rattle.kinds.specs.Values.{textOf, two, twoText, three, threeText, sequenceOf, sequenceValue, kindNumber, codeOf, valuesOf, meaningOf, charOf, recordFrom, recordOf, judgedOf}
 
 pub sequence-back : (s : Sequence) → sequenceOf (sequenceValue s) ≡ s
 unfolding sequenceOf sequenceValue
 sequence-back Sequence.Missing = refl
 sequence-back (Sequence.Number n) = refl
 
-pub height-back : (h : Height) → heightOf (heightValue h) ≡ h
-unfolding heightOf heightValue
-height-back Height.Missing = refl
-height-back (Height.Mm z) = refl
+-- the answers of the judge
+pub good-is : (v : Verdict) → judgedOf v ≡ Judged.Good → v ≡ ok
+unfolding judgedOf
+good-is ok e = refl
+good-is (fault n c) e = cc
+
+pub bad-is : (v : Verdict) (n c : ℕ) → judgedOf v ≡ Judged.Bad n c → v ≡ fault n c
+unfolding judgedOf
+bad-is ok n c e = cc
+bad-is (fault n′ c′) n c e = cc
 
 -- of the kind that the record is
 from-values : (r : Record) (a b c : List ℕ) → recordFrom (kindNumber r) (codeOf r) (λ i. getD (valuesOf r a b c) i gap) ≡ r
@@ -40,7 +48,7 @@ from-values (R.Measurement r) a b c = refl
 from-values (R.Instrument r) a b c = refl
 from-values (R.Antenna r) a b c = refl
 from-values (R.Point r) a b c = refl
-from-values (R.Heights r) a b c = rw (height-back (r .orthometric), height-back (r .geoid), height-back (r .ellipsoid))
+from-values (R.Heights r) a b c = rw (height-same (r .orthometric), height-same (r .geoid), height-same (r .ellipsoid))
 from-values (R.Network r) a b c = refl
 from-values (R.Local r) a b c = refl
 from-values (R.Factor r) a b c = refl

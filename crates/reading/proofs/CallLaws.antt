@@ -1,11 +1,11 @@
 -- The calls: one law for each way through them, and what their promises say by themselves.
-use mathlib.Core.Path.{_≡_, refl, sym, _∙_, ap, subst}
+use mathlib.Core.Path.{_≡_, refl, sym, _∙_, ap}
 use mathlib.Core.Bool.{Bool, true, false, cond, _&&_, false≢true}
-use mathlib.Core.List.{List, [], _∷_}
-use Prim.Native.Nat.{ℕ, zero, suc, _+_, _-_, _*_, _≤_, _<_}
+use mathlib.Core.List.{List, []}
+use Prim.Native.Nat.{ℕ, _+_, _-_, _*_, _≤_, _<_}
 use native.Mathlib.Omega.{arith}
 use lib.Dec.{leb}
-use lib.ListN.{length, take, drop, getD, length-drop}
+use lib.ListN.{length, take, drop, getD}
 use Rattle.rules.specs.Tests.{_&_, _≤?_, _=?_, within}
 use Rattle.rules.specs.Items.{gap, valueOf}
 use Rattle.rules.specs.Fields.{Verdict, ok, fault, isOk, values}
@@ -16,15 +16,16 @@ use Rattle.rules.specs.Files.{lineAt, begun}
 use Rattle.rules.specs.Calls.{unread, readAs, readOf, isRead, fieldWidth, widthAsked, fieldOffset, fieldOf}
 use Rattle.rules.specs.Calls as calls
 use Rattle.rules.specs.Chapter4.{chapter4}
-use Rattle.rules.proofs.Truth.{both, and, to≤, of≤, to≡, of≡, of≢, cases, to-within}
+use Rattle.rules.proofs.Truth.{both, and, to≤, of≤, to≡, of≡, of≢, cases, to-within, above-0}
 use Rattle.rules.proofs.RecordLaws.{readLine-splits, line-long}
 use Rattle.rules.proofs.Chapter4Laws.{layout-covers}
+use Rattle.rules.proofs.FileLaws.{reaches}
 use Rattle.kinds.specs.declared.Sequence.{Sequence}
 use Rattle.kinds.specs.declared.Record.{Record}
 use Rattle.kinds.specs.declared.Reading.{Reading}
 use Rattle.kinds.specs.declared.Judged.{Judged}
 use Rattle.kinds.specs.Values.{judgedOf, sequenceOf, recordFrom, recordOf, readingOf}
-use Rattle.judging.proofs.RowLaws.{good-is, bad-is}
+use Rattle.kinds.proofs.ValueLaws.{good-is, bad-is}
 use Rattle.judging.proofs.CodeLaws.{and-is}
 use Rattle.reading.specs.Values.{recordIn}
 use Rattle.reading.specs.Widths.{widthIn}
@@ -110,16 +111,6 @@ module _ (f : List ℕ) (n c : ℕ) where
   asked-there t e h l z x = x ∙ ap (λ k. widthIn k c) z ∙ sym (asked-in (sym e ∙ h))
 
 -- a field that is there lies inside the file
-longer : (k n : ℕ) (l : List ℕ) → k < length (take n l) → k < length l
-longer k zero l h = absurd (omega arith)
-longer k (suc n) [] h = absurd (omega arith)
-longer zero (suc n) (b ∷ l) h = omega arith
-longer (suc k) (suc n) (b ∷ l) h = let j : k < length l = longer k n l (omega arith) in omega arith
-
-reaches : (f : List ℕ) (i : ℕ) → 80 < length (lineAt f i) → 80 < length f - 81 * i
-unfolding lineAt
-reaches f i h = subst (λ n. 80 < n) (length-drop (81 * i) f) (longer 80 81 (drop (81 * i) f) h)
-
 width-inside : (l : List ℕ) (c : ℕ) → 1 ≤ widthIn l c → (80 < length l) × (11 ≤ c) × (c + widthIn l c ≤ 81)
 unfolding widthIn
 width-inside l c h =
@@ -140,10 +131,6 @@ inside f n c h =
 module _ (f : List ℕ) (n c w : ℕ) (e : w ≡ widthAsked f n c) where
   pub room : (w ≡ 0 → ⊥) → (1 ≤ n) × (11 ≤ c) × (c ≤ 80) × (81 * (n - 1) + (c - 1) + w ≤ length f)
   room h = let k = inside f n c (above-0 (widthAsked f n c) (λ z. h (e ∙ z))) in (k .0, k .1, k .2, rw e (k .3))
-    where
-      above-0 : (m : ℕ) → (m ≡ 0 → ⊥) → 1 ≤ m
-      above-0 zero h = absurd (h refl)
-      above-0 (suc m) h = omega arith
 
   pub empty-contents : w ≡ 0 → [] ≡ fieldOf f n c
   unfolding fieldOf

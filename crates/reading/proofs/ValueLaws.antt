@@ -1,8 +1,8 @@
 -- The typed values of each kind are those of the line's meaning; and one law for each way through the readers.
 use mathlib.Core.Path.{_≡_, refl, sym, _∙_, ap}
 use mathlib.Core.Bool.{Bool, true, false, cond}
-use mathlib.Core.List.{List, [], _∷_, map}
-use Prim.Native.Nat.{ℕ, zero, suc, _+_, _-_, _≤_, _<_}
+use mathlib.Core.List.{List, map}
+use Prim.Native.Nat.{ℕ, _+_, _-_, _≤_, _<_}
 use native.Mathlib.Omega.{arith}
 use lib.IntN.{ℤ, pos, negsuc}
 use lib.Dec.{lit≤}
@@ -13,6 +13,7 @@ use Rattle.rules.specs.Fields.{columnsOf, values}
 use Rattle.rules.specs.Layouts.{at, tied, station, instrument, antenna, initials, state, anyText, metres, letterOrBlank, kept, titled, project, occupation, comment, measurement, receiver, aerial, point, heights, layouts}
 use Rattle.rules.specs.Records.{sequence, codeAt}
 use Rattle.rules.proofs.Truth.{of≤}
+use Rattle.rules.proofs.FileLaws.{length-take-most}
 use Rattle.columns.specs.declared.Count.{Count}
 use Rattle.columns.specs.declared.Height.{Height}
 use Rattle.columns.specs.Types.{natOf, intOf, heightOf, countOf, mediaOf, four, wayOf}
@@ -100,12 +101,7 @@ of-kind j k l z e = z ∙ ap (λ i. recordIn i l) (sym e)
 
 -- ---- one field
 few : (n m : ℕ) (l : List ℕ) → n ≤ m → length (take n l) ≤? m ≡ true
-few n m l h = of≤ (omega (arith, at-most n l))
-  where
-    at-most : (n : ℕ) (l : List ℕ) → length (take n l) ≤ n
-    at-most zero l = omega arith
-    at-most (suc n) [] = omega arith
-    at-most (suc n) (b ∷ l) = let k : length (take n l) ≤ n = at-most n l in omega arith
+few n m l h = of≤ (omega (arith, length-take-most n l))
 
 -- what a reader gives of at most m columns
 pub told : {A : Type 0} (n m : ℕ) (l : List ℕ) (x y : A) → n ≤ m → cond (length (take n l) ≤? m) x y ≡ x

@@ -2,7 +2,7 @@
 use mathlib.Core.Path.{_≡_, refl, sym, _∙_, ap}
 use mathlib.Core.Bool.{Bool, true, false, cond, false≢true}
 use mathlib.Core.List.{List, [], _∷_}
-use Prim.Native.Nat.{ℕ, zero, suc, _+_, _-_, _≤_, _<_}
+use Prim.Native.Nat.{ℕ, _+_, _-_, _≤_, _<_}
 use native.Mathlib.Omega.{arith}
 use lib.ListN.{getD}
 use lib.Seq.{slice, slice-empty}
@@ -11,9 +11,9 @@ use Rattle.rules.specs.Items.{Item, blank, constant, number, height, angle, mon
 use Rattle.rules.specs.Fields.{Field, covers}
 use Rattle.rules.specs.Layouts.{at, tied, station, instrument, antenna, initials, state, anyText, metres, letterOrBlank, kept, titled, project, occupation, comment, measurement, receiver, aerial, point, heights, layouts}
 use Rattle.rules.specs.Calls.{partWidth, fieldWidth}
-use Rattle.rules.proofs.Truth.{both, and, to≤, to≡, of≡, no≡, of≢, cases}
+use Rattle.rules.proofs.Truth.{both, and, to≤, to≡, of≡, no≡, of≢, cases, above-0}
 use Rattle.rules.proofs.FieldLaws.{covers-end}
-use Rattle.kinds.specs.Tables.{Row, rowLists, rows, starts, firsts, widths}
+use Rattle.kinds.specs.Tables.{rowLists, rows, starts, firsts, widths}
 use Rattle.kinds.proofs.TableLaws.{each-kind, begins, first-is, width-is, rows-from}
 use Rattle.reading.specs.Widths.{rowWidth, plainWidth}
 
@@ -239,7 +239,3 @@ field-inside c d (f ∷ fs) h k =
     let from : f .from ≡ d = to≡ (both (both h .0) .0) in
     let last : d + width (f .item) ≤ 81 = covers-end (d + width (f .item)) fs (both h .1) in
     (omega (arith, r .0), rw e (omega (arith, r .1, total-parts (f .item)))))
-  where
-    above-0 : (n : ℕ) → (n ≡ 0 → ⊥) → 1 ≤ n
-    above-0 zero h = absurd (h refl)
-    above-0 (suc n) h = omega arith

@@ -22,7 +22,7 @@ use Rattle.rules.specs.Conforms.{Stands, Conforms}
 use Rattle.rules.proofs.Truth.{both, and, to≤, of≤, no≤, to≡, of≡, no≡, cases, either, all-getD}
 use Rattle.rules.proofs.FieldLaws.{isOk-⨾, isOk-check}
 use Rattle.rules.proofs.RecordLaws.{bytes-length, agreeing-line}
-use Rattle.rules.proofs.FileLaws.{accepted-splits, accepted-parts, length-lines, line-at}
+use Rattle.rules.proofs.FileLaws.{accepted-splits, accepted-parts, records, length-take-most, line-at}
 use Rattle.rules.proofs.ReferenceLaws.{references-iff}
 use Rattle.rules.proofs.Chapter4Laws.{allBelow, below-holds, order-is-the-table}
 
@@ -103,12 +103,7 @@ job-of s c f =
 -- ---- one record
 short-line : (f : List ℕ) (i : ℕ) → length (lineAt f i) ≤ 81
 unfolding lineAt
-short-line f i = at-most 81 (drop (81 * i) f)
-  where
-    at-most : (n : ℕ) (l : List ℕ) → length (take n l) ≤ n
-    at-most zero l = omega arith
-    at-most (suc n) [] = omega arith
-    at-most (suc n) (b ∷ l) = let k : length (take n l) ≤ n = at-most n l in omega arith
+short-line f i = length-take-most 81 (drop (81 * i) f)
 
 module _ (s : Past) (l : List ℕ) (small : s .place < 17) where
   stands : length l ≤ 81 → formedLine chapter4 l ≡ true → permitted chapter4 s (meaning chapter4 l) ≡ true → Stands s l
@@ -178,10 +173,6 @@ module _ {S : Type 0} (E : Edition S) where
 start-small : (f : List ℕ) (i : ℕ) → before chapter4 f i .place < 17
 unfolding before
 start-small f i = passed-small atStart (map (meaning chapter4) (take i (lines f))) (unfold atStart in omega arith)
-
-records : (f : List ℕ) → length (lines f) ≡ begun f
-unfolding lines
-records f = length-lines f (begun f) 0
 
 whole-before : (f : List ℕ) → passed chapter4 atStart (map (meaning chapter4) (lines f)) ≡ before chapter4 f (begun f)
 unfolding before

@@ -19,6 +19,11 @@ unfolding isOk _⨾_ _&_
 isOk-⨾ ok v = refl
 isOk-⨾ (fault n c) v = refl
 
+pub ⨾-assoc : (u v w : Verdict) → (u ⨾ v) ⨾ w ≡ u ⨾ (v ⨾ w)
+unfolding _⨾_
+⨾-assoc ok v w = refl
+⨾-assoc (fault n c) v w = refl
+
 pub isOk-check : (b : Bool) (n c : ℕ) → isOk (check b n c) ≡ b
 unfolding isOk check
 isOk-check true n c = refl

@@ -14,7 +14,7 @@ use Rattle.rules.specs.Files.{Result, accept, refuse, isAccept, inRecord
 use Rattle.rules.specs.Faults.{Faults, FileFaults, _∪_, Fails, Some, CheckFaults, phase, stage, Before, Precedes, First, FirstOf, LineFaults, RecordFaults, before, HasFault, CallFaults}
 use Rattle.rules.proofs.Truth.{both, to≤, of≤, to≡, is-no, either}
 use Rattle.rules.proofs.RecordLaws.{Sound}
-use Rattle.rules.proofs.FileLaws.{length-lines, line-at}
+use Rattle.rules.proofs.FileLaws.{records, line-at}
 use Rattle.rules.proofs.FaultLaws.{by-stage, by-number, before-antisym, at-2, at-8, first-then, first-check, first-run, sorted, first-line, line-stage}
 
 -- ---- what the order asks of an edition's references
@@ -201,10 +201,6 @@ module _ {S : Type 0} (E : Edition S) where
   unreferred file r (l ∷ ls) n k c (suc i, a, b, x) = inr (unreferred file (r + 1) ls n k c (i, omega arith, omega arith, x))
 
   -- ---- of the whole file
-  records : (f : List ℕ) → length (lines f) ≡ begun f
-  unfolding lines
-  records f = length-lines f (begun f) 0
-
   to-fault : (f : List ℕ) (n r c : ℕ) → WalkFaults (E .start) 1 (lines f) n r c ⊎ ReferFaults (meanings E f) 1 (meanings E f) n r c → HasFault E f n r c
   unfolding HasFault meanings before
   to-fault f n r c (inl x) = unfold Stated in

@@ -61,10 +61,14 @@ lines-join ls h =
     count k n e = omega arith
 
 -- one line after another, as a loop meets them
-pub length-lines : (f : List ℕ) (n i : ℕ) → length (linesFrom f n i) ≡ n
+length-lines : (f : List ℕ) (n i : ℕ) → length (linesFrom f n i) ≡ n
 unfolding linesFrom
 length-lines f zero i = refl
 length-lines f (suc n) i = ap suc (length-lines f n (i + 1))
+
+pub records : (f : List ℕ) → length (lines f) ≡ begun f
+unfolding lines
+records f = length-lines f (begun f) 0
 
 pub lines-more : (f : List ℕ) (n i : ℕ) → i < n → linesFrom f (n - i) i ≡ lineAt f i ∷ linesFrom f (n - (i + 1)) (i + 1)
 unfolding linesFrom
@@ -92,17 +96,20 @@ unfolding lines
 line-at f i h = lines-at f (begun f) 0 i h ∙ ap (lineAt f) (omega arith)
 
 -- a line of more than 80 bytes is there to its end
+pub length-take-most : (n : ℕ) (l : List ℕ) → length (take n l) ≤ n
+length-take-most zero l = omega arith
+length-take-most (suc n) [] = omega arith
+length-take-most (suc n) (b ∷ l) = omega (arith, length-take-most n l)
+
 length-take-least : (k n : ℕ) (l : List ℕ) → k < length (take n l) → k < length l
 length-take-least k zero l h = absurd (omega arith)
 length-take-least k (suc n) [] h = absurd (omega arith)
 length-take-least zero (suc n) (b ∷ l) h = omega arith
 length-take-least (suc k) (suc n) (b ∷ l) h = let j : k < length l = length-take-least k n l (omega arith) in omega arith
 
-reaches : (f : List ℕ) (i : ℕ) → 80 < length (lineAt f (0 + i)) → 80 < length f - 81 * i
+pub reaches : (f : List ℕ) (i : ℕ) → 80 < length (lineAt f i) → 80 < length f - 81 * i
 unfolding lineAt
-reaches f i h =
-    let e : 0 + i ≡ i = omega arith in
-    subst (λ n. 80 < n) (length-drop (81 * i) f) (length-take-least 80 81 (drop (81 * i) f) (subst (λ j. 80 < length (take 81 (drop (81 * j) f))) e h))
+reaches f i h = subst (λ n. 80 < n) (length-drop (81 * i) f) (length-take-least 80 81 (drop (81 * i) f) h)
 
 module _ {S : Type 0} (E : Edition S) where
   -- ---- acceptance splits into a test of the lines and tests of the meaning
@@ -183,11 +190,14 @@ module _ {S : Type 0} (E : Edition S) where
   whole-by : (f : List ℕ) (n : ℕ) → begun f ≡ n → formedLines E 1 (linesFrom f n 0) ≡ true → length f ≡ 81 * n
   unfolding begun
   whole-by f zero e h = omega arith
-  whole-by f (suc n) e h = let long : 80 < length f - 81 * n = reaches f n (formed-last f n 0 1 h) in omega arith
+  whole-by f (suc n) e h =
+      let same : 0 + n ≡ n = omega arith in
+      let long : 80 < length f - 81 * n = reaches f n (subst (λ i. 80 < length (lineAt f i)) same (formed-last f n 0 1 h)) in
+      omega arith
 
   pub formed-whole : (f : List ℕ) → formedLines E 1 (lines f) ≡ true → length f ≡ 81 * length (lines f)
   unfolding lines
-  formed-whole f h = whole-by f (begun f) refl h ∙ ap (λ n. 81 * n) (sym (length-lines f (begun f) 0))
+  formed-whole f h = whole-by f (begun f) refl h ∙ ap (λ n. 81 * n) (sym (records f))
 
   -- ---- demand 3
   module _ (sound : Sound E) (f : List ℕ) (h : accepted E f ≡ true) where

@@ -53,13 +53,13 @@ not-blank-after zero bs h = h
 not-blank-after (suc k) bs h = rw (blank-32, not-blank-after k bs h) (unfold _&_ in refl)
 
 -- ---- digits in so many columns
-low : (b : ℕ) → isDigit b ≡ true → notAbove9 b ≡ true
+pub digit-low : (b : ℕ) → isDigit b ≡ true → notAbove9 b ≡ true
 unfolding isDigit notAbove9
-low b h = of≤ (to-within h .1)
+digit-low b h = of≤ (to-within h .1)
 
 pub digits-lt : (w : ℕ) (ds : List ℕ) → all isDigit ds ≡ true → length ds ≤ w → val 0 ds < 10 ^ w
 digits-lt w ds h k =
-    let v : val 0 ds < 1 * 10 ^ length ds = val-lt 0 ds (all-weaken isDigit notAbove9 low ds h) in
+    let v : val 0 ds < 1 * 10 ^ length ds = val-lt 0 ds (all-weaken isDigit notAbove9 digit-low ds h) in
     omega (arith, v, pow-le-pow-right {n = 10} (omega arith) {i = length ds} {j = w} k)
 
 -- ---- numbers
@@ -89,6 +89,9 @@ only-blanks bs s {w} e h =
     empty [] k = refl
     empty (d ∷ ds) k = absurd (omega arith)
 
+behind-blanks : (w k : ℕ) (ds : List ℕ) → length (replicate k 32 ++ ds) ≡ w → length ds ≤ w
+behind-blanks w k ds e = omega (arith, length-append (replicate k 32) ds)
+
 module _ (w lo hi : ℕ) (may : Bool) where
   value-blank : (bs : List ℕ) → all isBlank bs ≡ true → valueOf (number w lo hi may) bs ≡ missing
   unfolding valueOf
@@ -97,9 +100,6 @@ module _ (w lo hi : ℕ) (may : Bool) where
   value-digits : (k : ℕ) (ds : List ℕ) → all isDigit ds ≡ true → 1 ≤ length ds → valueOf (number w lo hi may) (replicate k 32 ++ ds) ≡ num (pos (val 0 ds))
   unfolding valueOf
   value-digits k ds h s = rw (not-blank-after k ds (digits-not-blank ds h s), val-blanks k ds)
-
-  length-digits : (k : ℕ) (ds : List ℕ) → length (replicate k 32 ++ ds) ≡ w → length ds ≤ w
-  length-digits k ds e = omega (arith, length-append (replicate k 32) ds)
 
   -- the range of a value that is there
   in-range : (n : ℕ) → fits (number w lo hi may) (num (pos n)) ≡ true → (lo ≤ n) × (n ≤ hi)
@@ -144,7 +144,7 @@ module _ (w lo hi : ℕ) (may : Bool) where
       back (inl x) =
           and (and (of≡ (ap length (x .1) ∙ length-replicate {A = ℕ} w 32)) (rw (x .1) (blanks-numForm _ (blanks w)))) (rw (x .2) (fits-missing (x .0)))
       back (inr (n, size, i, a, b, v)) =
-          let long : length (i .digits) ≤ w = length-digits (i .blanks) (i .digits) (sym (ap length (i .spelled)) ∙ size) in
+          let long : length (i .digits) ≤ w = behind-blanks w (i .blanks) (i .digits) (sym (ap length (i .spelled)) ∙ size) in
           let small : n < 10 ^ w = rw (i .value) (digits-lt w (i .digits) (i .decimal) long) in
           and (and (of≡ size) (rw (i .spelled) (numForm-blanks (i .blanks) (i .digits) ∙ digits-numForm (i .digits) (i .decimal))))
           (rw v (fits-range n (omega (arith, i .some)) small a b))
@@ -247,9 +247,6 @@ module _ (w : ℕ) (may : Bool) where
       down (val 0 ds) (omega arith) (digits-lt (w - 1) ds h short)
   height-fits false ds h s k = up (val 0 ds) (omega arith) (digits-lt w ds h k)
 
-  height-length : (k : ℕ) (xs : List ℕ) → length (replicate k 32 ++ xs) ≡ w → length xs ≤ w
-  height-length k xs e = omega (arith, length-append (replicate k 32) xs)
-
   height-only-blanks : (bs : List ℕ) (s : SplitHeight bs) → length bs ≡ w → 1 ≤? length (s .digits) ≡ false → bs ≡ replicate w 32
   height-only-blanks bs s e h =
       only-blanks bs record { blank = s .blank; digits = s .digits; spelled = s .spelled ∙ ap (λ t. replicate (s .blank) 32 ++ (cond t (45 ∷ []) [] ++ s .digits)) unsigned; decimal = s .decimal } e h
@@ -281,6 +278,6 @@ module _ (w : ℕ) (may : Bool) where
           and (and (of≡ (ap length (x .1) ∙ length-replicate {A = ℕ} w 32)) (rw (x .1) (blanks-heightForm _ (blanks w)))) (rw (x .2) (height-missing (x .0)))
       back (inr (z, size, i, v)) =
           let tail = cond (i .minus) (45 ∷ []) [] ++ i .digits in
-          let long : length tail ≤ w = height-length (i .blanks) tail (sym (ap length (i .spelled)) ∙ size) in
+          let long : length tail ≤ w = behind-blanks w (i .blanks) tail (sym (ap length (i .spelled)) ∙ size) in
           and (and (of≡ size) (rw (i .spelled) (heightForm-blanks (i .blanks) tail ∙ signed-form (i .minus) (i .digits) (i .decimal) (i .some))))
           (rw v (subst (λ x. fits (height w may) (num x) ≡ true) (sym (i .value)) (height-fits (i .minus) (i .digits) (i .decimal) (i .some) long)))

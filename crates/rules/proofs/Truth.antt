@@ -1,7 +1,7 @@
 -- What tests that hold say, and their algebra.
 use mathlib.Core.Path.{_≡_, refl, sym, _∙_, ap}
 use mathlib.Core.Logic.{_⊎_, inl, inr}
-use mathlib.Core.Bool.{Bool, true, false, cond, false≢true}
+use mathlib.Core.Bool.{Bool, true, false, cond, _||_, false≢true}
 use mathlib.Core.List.{List, [], _∷_, _++_}
 use Prim.Native.Nat.{ℕ, zero, suc, _≤_, _<_}
 use native.Mathlib.Omega.{arith}
@@ -70,7 +70,15 @@ pub of≢ : {m n : ℕ} → (m ≡ n → ⊥) → m =? n ≡ false
 unfolding _=?_
 of≢ {m} {n} h = ne-eqb m n h
 
+pub above-0 : (n : ℕ) → (n ≡ 0 → ⊥) → 1 ≤ n
+above-0 zero h = absurd (h refl)
+above-0 (suc n) h = omega arith
+
 -- a choice of two tests
+pub or-cond : (a b : Bool) → (a || b) ≡ cond a true b
+or-cond true b = refl
+or-cond false b = refl
+
 pub choice : (a b : Bool) → cond a true b ≡ true → (P : Type 0) → (a ≡ true → P) → (b ≡ true → P) → P
 choice true b h P f g = f refl
 choice false b h P f g = g h

@@ -1,6 +1,6 @@
 -- What is given to write, as a whole: its code and kind, its judgement, and what the call answers and leaves. Assumes nothing.
 use mathlib.Core.Path.{_≡_, refl, sym, ap, _∙_}
-use mathlib.Core.Bool.{Bool, true, false, cond, _&&_, _||_}
+use mathlib.Core.Bool.{Bool, true, false, _&&_, _||_}
 use mathlib.Core.List.{List, [], _∷_}
 use Prim.Native.Nat.{ℕ, _+_, _≤_, _<_}
 use native.Mathlib.Omega.{arith}
@@ -17,7 +17,7 @@ use Rattle.rules.specs.Kinds.{dataCodes, kindFrom, starred, kindBetween, kindOf
 use Rattle.rules.specs.Layouts.{at, anyText, kept, titled, project, occupation, comment, measurement, receiver, aerial, point, heights, layouts, layout}
 use Rattle.rules.specs.Chapter4.{chapter4}
 use Rattle.rules.specs.Calls.{writeVerdict, writeOutput}
-use Rattle.rules.proofs.Truth.{both, and, of≤, to≡, of≡, of>, of≢, cases, is-no, not-both, to-within}
+use Rattle.rules.proofs.Truth.{both, and, of≤, to≡, of≡, of>, of≢, cases, is-no, not-both, to-within, or-cond}
 use Rattle.rules.proofs.RecordLaws.{write-takes}
 use Rattle.columns.specs.declared.Count.{Count}
 use Rattle.columns.specs.declared.Set.{Set}
@@ -31,7 +31,7 @@ use Rattle.kinds.specs.declared.Record.the-variants as R
 use Rattle.kinds.specs.declared.Judged.{Judged}
 use Rattle.kinds.specs.declared.Written.{Written}
 use Rattle.kinds.specs.Values.{kindNumber, codeOf, valuesOf, meaningOf, judgedOf, writtenOf}
-use Rattle.kinds.proofs.ValueLaws.{code-kind}
+use Rattle.kinds.proofs.ValueLaws.{code-kind, good-is, bad-is}
 use Rattle.writing.specs.Judging.{afterOf, judgeRecord}
 use Rattle.writing.specs.Laying.{lay, layFields, layoutOf}
 use Rattle.writing.proofs.JudgeLaws.{after-after, ⨾-same}
@@ -147,10 +147,6 @@ job-test : (k : Job) (a : List ℕ)
     ≡ ofKind chapter4 0 (meaningOf (R.Job k) a [] [])
 job-test k a = spelled (k .first) (k .second) ∙ job-kind (k .first) (k .second) ∙ job-of-kind k a
   where
-    or-cond : (p q : Bool) → (p || q) ≡ cond p true q
-    or-cond true q = refl
-    or-cond false q = refl
-
     spelled : (x y : ℕ) → (leb 65 x && leb x 90 && (leb 65 y && leb y 90 || leb 48 y && leb y 57)) ≡ (isLetter x & member (letter or digit) y)
     spelled x y = unfold isLetter isDigit member within _≤?_ in simp &-is (ap (λ z. leb 65 x && leb x 90 && z) (or-cond (leb 65 y && leb y 90) (leb 48 y && leb y 57)))
 
@@ -218,18 +214,8 @@ module _ (a b c : List ℕ) {w : Record} (h : formed (entriesOf (layoutOf (kindN
   angles-fitting p e = let t = both (both (rw e at h) .1) .1 in (both t .0, both (both t .1) .0)
 
 -- ---- the call
-judged-ok : (v : Verdict) → judgedOf v ≡ Judged.Good → v ≡ ok
-unfolding judgedOf
-judged-ok ok e = refl
-judged-ok (fault n c) e = cc
-
-judged-fault : (v : Verdict) (n c : ℕ) → judgedOf v ≡ Judged.Bad n c → v ≡ fault n c
-unfolding judgedOf
-judged-fault ok n c e = cc
-judged-fault (fault m d) n c e = cc
-
 pub judged-good : (v : Verdict) {j : Judged} → j ≡ judgedOf v → j ≡ Judged.Good → isOk v ≡ true
-judged-good v e h = ap isOk (judged-ok v (sym e ∙ h)) ∙ unfold isOk in refl
+judged-good v e h = ap isOk (good-is v (sym e ∙ h)) ∙ unfold isOk in refl
 
 module _ (k : ℕ) (q : Value) (m : Meaning) (out : List ℕ) where
   pub write-short : length out < 81
@@ -245,9 +231,9 @@ module _ (k : ℕ) (q : Value) (m : Meaning) (out : List ℕ) where
     pub write-bad : (n c : ℕ) → j ≡ Judged.Bad n c
         → (Written.Refused record { number = n; «record» = 0; column = c } ≡ writtenOf (writeVerdict (length out) k q m)) × (out ≡ writeOutput k q m out)
     unfolding writtenOf writeOutput isOk
-    write-bad n c b = let e = verdict-is ∙ judged-fault (judgeGiven chapter4 k q m) n c (sym g ∙ b) in (sym (rw e), sym (rw e))
+    write-bad n c b = let e = verdict-is ∙ bad-is (judgeGiven chapter4 k q m) n c (sym g ∙ b) in (sym (rw e), sym (rw e))
 
     pub write-good : {line : List ℕ} → j ≡ Judged.Good → line ≡ lineOf chapter4 q m
         → (Written.Done ≡ writtenOf (writeVerdict (length out) k q m)) × (putMid 0 81 out line ≡ writeOutput k q m out)
     unfolding writtenOf writeOutput isOk
-    write-good b d = let e = verdict-is ∙ judged-ok (judgeGiven chapter4 k q m) (sym g ∙ b) in (sym (rw e), sym (rw (e, d)))
+    write-good b d = let e = verdict-is ∙ good-is (judgeGiven chapter4 k q m) (sym g ∙ b) in (sym (rw e), sym (rw (e, d)))

@@ -10,6 +10,7 @@ use Rattle.rules.specs.Characters.{isBlank}
 use Rattle.rules.specs.Items.{Test, word, text, onText, passes, width, shape, valueOf, fits, good}
 use Rattle.rules.specs.Fields.{Verdict, ok, fault, check, _⨾_, sameTruth, isMissing}
 use Rattle.rules.proofs.Truth.{of≡}
+use Rattle.rules.proofs.FieldLaws.{⨾-assoc}
 use Rattle.columns.proofs.Loops.{&-is}
 use Rattle.columns.specs.declared.Height.{Height}
 use Rattle.columns.specs.Types.{heightValue}
@@ -22,11 +23,6 @@ unfolding afterOf judgedOf _⨾_
 after-after Judged.Good ok v = refl
 after-after Judged.Good (fault n c) v = refl
 after-after (Judged.Bad n c) u v = refl
-
-pub ⨾-assoc : (u v w : Verdict) → (u ⨾ v) ⨾ w ≡ u ⨾ (v ⨾ w)
-unfolding _⨾_
-⨾-assoc ok v w = refl
-⨾-assoc (fault n c) v w = refl
 
 -- what follows a good test alone matters
 pub ⨾-same : (b : Bool) (n c : ℕ) (u v : Verdict) → (b ≡ true → u ≡ v) → (check b n c ⨾ u) ≡ (check b n c ⨾ v)

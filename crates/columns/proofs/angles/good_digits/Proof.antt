@@ -2,15 +2,14 @@
 use mathlib.Core.Path.{_≡_, refl, sym, ap, _∙_}
 use borrow.Author.Needs.{needs}
 use Rattle.rules.specs.Tests.{_&_}
-use Rattle.rules.proofs.Truth.{of≤}
-use Rattle.columns.proofs.PartLaws.{above?}
+use Rattle.rules.proofs.Truth.{of≤, of>}
 use Rattle.columns.proofs.AngleLaws.{digits-good}
 use Rattle.columns.proofs.angles.good_digits.Statement.{statement}
 use Rattle.columns.proofs.angles.good_digits.Tie as tie
 
 returns : tie.Need-returns
 unfolding _&_
-returns c = sym (rw (above? (c .if1 .taken)))
+returns c = sym (rw (of> (c .if1 .taken)))
 
 returns-2 : tie.Need-returns-2
 unfolding _&_

@@ -5,9 +5,8 @@ use native.Mathlib.Omega.{arith}
 use lib.ListN.{length}
 use mir.Syntax.{w32}
 use mir.ValLaws.{toZ-ofZ}
-use Rattle.rules.proofs.Truth.{of≤}
+use Rattle.rules.proofs.Truth.{of≤, of>}
 use Rattle.columns.proofs.Loops.{pow-most}
-use Rattle.columns.proofs.PartLaws.{above?}
 use Rattle.columns.proofs.ValueLaws.{height-blank, height-some}
 use Rattle.columns.proofs.heights.read_height.Statement.{statement}
 use Rattle.columns.proofs.heights.read_height.Tie as tie
@@ -15,7 +14,7 @@ use Rattle.columns.proofs.heights.read_height.Tie as tie
 pub read-height-spec : {M : Type 1} → statement M
 read-height-spec =
     tie.close
-    (tie.spec (λ c. sym (rw (above? (c .if1 .taken)))) (λ c κs. search needs)
+    (tie.spec (λ c. sym (rw (of> (c .if1 .taken)))) (λ c κs. search needs)
     (λ c. sym (rw (of≤ (c .before .before .if1 .left)) (sym (height-blank (c .before .before .before .before .args .part .now) (c .before .all-blank .ensures) (c .if2 .taken)))))
     (λ c κs. search needs) (λ c κs. search needs)
     (λ c. omega (arith, c .sum .ensures .small, pow-most (length (c .before .before .before .before .before .before .args .part .now)) 7 (omega arith)))

@@ -5,17 +5,17 @@ use native.Mathlib.Omega.{arith}
 use Prim.Native.Nat.{_≤_}
 use lib.ListN.{length, drop}
 use Rattle.rules.specs.Digits.{val}
+use Rattle.rules.proofs.FileLaws.{length-take-most}
 use Rattle.columns.proofs.Loops.{pow-most}
-use Rattle.columns.proofs.PartLaws.{take-few}
 use Rattle.columns.proofs.LabelLaws.{media-read}
 use Rattle.columns.proofs.labels.read_media.Statement.{statement}
 use Rattle.columns.proofs.labels.read_media.Tie as tie
 
 day-few : (c : tie.After-middle) → length (c .middle .result .now) ≤ 3
-day-few c = rw (c .middle .ensures) (take-few 3 (drop 1 (c .before .before .args .part .now)))
+day-few c = rw (c .middle .ensures) (length-take-most 3 (drop 1 (c .before .before .args .part .now)))
 
 year-few : (c : tie.After-middle2) → length (c .middle2 .result .now) ≤ 1
-year-few c = rw (c .middle2 .ensures) (take-few 1 (drop 4 (c .before .before .before .before .args .part .now)))
+year-few c = rw (c .middle2 .ensures) (length-take-most 1 (drop 4 (c .before .before .before .before .args .part .now)))
 
 pub read-media-spec : {M : Type 1} → statement M
 read-media-spec =
