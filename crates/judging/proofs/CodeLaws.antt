@@ -79,7 +79,7 @@ module _ (l : List ℕ) where
       let f : min 4 (length l - 6) ≡ 4 = simp (length-take, length-drop) at e in
       omega (arith, f, min-le-right 4 (length l - 6))
 
-  at-column : (i : ℕ) → i < 4 → getD (codeAt l) i 0 ≡ getD l (6 + i) 0
+  pub at-column : (i : ℕ) → i < 4 → getD (codeAt l) i 0 ≡ getD l (6 + i) 0
   unfolding codeAt
   at-column i h = getD-take 4 (drop 6 l) i 0 h ∙ getD-drop 6 l i 0
 

@@ -18,6 +18,7 @@ use Rattle.kinds.specs.declared.Three.{Three}
 use Rattle.kinds.specs.declared.Sequence.{Sequence}
 use Rattle.kinds.specs.declared.Record.{Record}
 use Rattle.kinds.specs.declared.Record.the-variants as R
+use Rattle.kinds.specs.declared.Checked.{Checked}
 use Rattle.kinds.specs.declared.Reading.{Reading}
 use Rattle.kinds.specs.declared.Written.{Written}
 use Rattle.kinds.specs.declared.Judged.{Judged}
@@ -152,6 +153,9 @@ unfoldable pub recordOf : Meaning → Record
 recordOf m = recordFrom (kindOf (m .code)) (m .code) (λ i. getD (m .values) i gap)
 
 -- ---- answers
+unfoldable pub checkedOf : calls.Answer → Checked
+checkedOf a = record { fault = record { number = a .number; «record» = a .place; column = a .column }; counts = a .counts }
+
 unfoldable pub readingOf : calls.Reading → Reading
 readingOf (calls.values q m) = Reading.Values (sequenceOf q) (recordOf m)
 readingOf (calls.unread n r c) = Reading.Refused record { number = n; «record» = r; column = c }

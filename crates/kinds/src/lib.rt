@@ -584,6 +584,12 @@ pub struct Fault {
     pub column: usize,
 }
 
+// What check and rewrite answer: a fault, number 0 for acceptance, and a count of each kind of record, all 0 after a refusal.
+pub struct Checked {
+    pub fault: Fault,
+    pub counts: [u32; 14],
+}
+
 // What read answers.
 pub enum Reading {
     Values(Sequence, Record),

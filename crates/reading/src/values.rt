@@ -47,7 +47,7 @@ pub fn read_sequence(line: &[u8]) -> Sequence
 }
 
 // A number that is never missing.
-fn number_in(line: &[u8], first: usize, width: usize) -> u32
+pub fn number_in(line: &[u8], first: usize, width: usize) -> u32
     requires { ⌜ (1 ≤ first) × (width ≤ 8) ⌝ }
     ensures { λ r. ⌜ r ≡ natIn first width (now (line .entry)) ⌝ }
 {

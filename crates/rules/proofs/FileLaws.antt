@@ -116,7 +116,7 @@ module _ {S : Type 0} (E : Edition S) where
   arrange : (a b c d e : Bool) → a & (b & c) & (d & e) ≡ a & b & d & (c & e)
   arrange a b c d e = simp &-sort
 
-  walk-splits : (s : S) (r : ℕ) (ls : List (List ℕ)) → isAccept (walk E s r ls) ≡ formedLines E r ls & orderly E s (map (meaning E) ls)
+  pub walk-splits : (s : S) (r : ℕ) (ls : List (List ℕ)) → isAccept (walk E s r ls) ≡ formedLines E r ls & orderly E s (map (meaning E) ls)
   unfolding walk formedLines orderly
   walk-splits s r [] = final (E .ends s) 8 r 1 ∙ sym (true-and (E .ends s))
   walk-splits s r (l ∷ ls) =

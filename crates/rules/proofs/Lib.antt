@@ -11,6 +11,7 @@ pub mod FileFaults  -- the first fault of a file, and demand 2 for any edition
 pub mod ReferenceLaws  -- references and words
 pub mod TableLaws  -- the table as it is filled, and the counts
 pub mod Chapter4Laws  -- Chapter 4 is sound, and its order is the paper's table
+pub mod Numbered  -- the number 0 is acceptance
 pub mod Keeping  -- what is kept of the records before
 pub mod Conforming  -- accepted exactly when it conforms
 pub mod Demands  -- the demands

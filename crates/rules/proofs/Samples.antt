@@ -153,6 +153,10 @@ pub full-accepted : judged full ≡ accept
 unfolding judged
 full-accepted = refl
 
+-- record 9 names station 3, which no *80* defines, and record 20, an *86* of another station, is malformed
+abbrev pub malformedLater : List String
+malformedLater = r-job ∷ r-title ∷ r-more ∷ r-project ∷ r-occupy1 ∷ r-comment ∷ r-begin1 ∷ r-end1 ∷ r-stranger ∷ r-strange3 ∷ r-strange3 ∷ r-strange3 ∷ r-receiver1 ∷ r-receiver2 ∷ r-aerial1 ∷ r-aerial2 ∷ r-point1 ∷ r-heights1 ∷ r-point2 ∷ r-heights1 ∷ r-network ∷ r-local ∷ r-factor ∷ r-last ∷ []
+
 -- ---- refused files, each with its number, record and column; a *25* is judged against the *80* records of the whole file
 pub refusals :
     (judged ("000010*A1*" ∷ [])
@@ -174,7 +178,7 @@ pub refusals :
     ∷ judged (r-job ∷ r-title ∷ r-more ∷ r-project ∷ r-occupy1 ∷ r-comment ∷ r-begin1 ∷ r-end1 ∷ r-stranger ∷ r-strange3 ∷ r-strange3 ∷ r-strange3 ∷ r-receiver1 ∷ r-receiver2 ∷ r-aerial1 ∷ r-aerial2 ∷ r-point1 ∷ r-heights1 ∷ r-point2 ∷ r-heights2 ∷ r-network ∷ r-local ∷ r-factor ∷ r-last ∷ [])
     ∷ judged (r-job ∷ r-title ∷ r-more ∷ r-project ∷ r-occupy1 ∷ r-comment ∷ r-begin1 ∷ r-end1 ∷ r-stranger28 ∷ r-begin2 ∷ r-begin2 ∷ r-begin2 ∷ r-receiver1 ∷ r-receiver2 ∷ r-aerial1 ∷ r-aerial2 ∷ r-point1 ∷ r-heights1 ∷ r-point2 ∷ r-heights2 ∷ r-network ∷ r-local ∷ r-factor ∷ r-last ∷ [])
     ∷ judged (r-job ∷ r-title ∷ r-more ∷ r-project ∷ r-occupy1 ∷ r-comment ∷ r-begin1 ∷ r-end1 ∷ r-stranger33 ∷ r-begin2 ∷ r-begin2 ∷ r-begin2 ∷ r-receiver1 ∷ r-receiver2 ∷ r-aerial1 ∷ r-aerial2 ∷ r-point1 ∷ r-heights1 ∷ r-point2 ∷ r-heights2 ∷ r-network ∷ r-local ∷ r-factor ∷ r-last ∷ [])
-    ∷ judged (r-job ∷ r-title ∷ r-more ∷ r-project ∷ r-occupy1 ∷ r-comment ∷ r-begin1 ∷ r-end1 ∷ r-stranger ∷ r-strange3 ∷ r-strange3 ∷ r-strange3 ∷ r-receiver1 ∷ r-receiver2 ∷ r-aerial1 ∷ r-aerial2 ∷ r-point1 ∷ r-heights1 ∷ r-point2 ∷ r-heights1 ∷ r-network ∷ r-local ∷ r-factor ∷ r-last ∷ [])
+    ∷ judged malformedLater
     ∷ [])
     ≡ (refuse 3 1 11
     ∷ refuse 4 1 12
@@ -199,6 +203,10 @@ pub refusals :
     ∷ [])
 unfolding judged
 refusals = refl
+
+pub malformed-first : judged malformedLater ≡ refuse 10 20 11
+unfolding judged
+malformed-first = refl
 
 -- ---- counts and definers
 unfoldable pub counted : List String → List ℕ

@@ -1,0 +1,91 @@
+-- One record: one law for each way through its judge, and what is kept after it is what the rules keep.
+use mathlib.Core.Path.{_≡_, refl, sym, _∙_, ap, ap₂, subst}
+use mathlib.Core.Bool.{Bool, true, false, cond, not, false≢true}
+use mathlib.Core.List.{List, [], _∷_, map}
+use Prim.Native.Nat.{ℕ, zero, suc, _+_, _≤_, _<_}
+use native.Mathlib.Omega.{arith}
+use lib.ListN.{length, getD}
+use Rattle.rules.specs.Tests.{_&_, _≤?_, _=?_}
+use Rattle.rules.specs.Fields.{Verdict, ok, fault, check, _⨾_, isOk, read, judge}
+use Rattle.rules.specs.Records.{bytes, codeAt, knownCode, entries, numbered, judgeLine, meaning}
+use Rattle.rules.specs.Kinds.{kindOf}
+use Rattle.rules.specs.Layouts.{layouts, kept, layout}
+use Rattle.rules.specs.Order.{goto, order}
+use Rattle.rules.specs.Chapter4.{mayStand, expectation, chapter4}
+use Rattle.rules.proofs.Truth.{both, and, to≤, of≤, of>, no≤, of≡, of≢, to≡, true-and, above-0}
+use Rattle.rules.proofs.RecordLaws.{bytes-length}
+use Rattle.kinds.specs.declared.Judged.{Judged}
+use Rattle.kinds.specs.declared.Expect.{Expect}
+use Rattle.kinds.specs.Values.{judgedOf, expectOf}
+use Rattle.kinds.proofs.ValueLaws.{good-is, bad-is}
+use Rattle.judging.proofs.RowLaws.{good-then, bad-then}
+use Rattle.walk.specs.declared.kept.Kept.{Kept}
+use Rattle.walk.specs.declared.records.Stepped.{Stepped}
+use Rattle.walk.specs.declared.records.Stepped.the-variants.{Next, Fault}
+use Rattle.walk.specs.Keeping.{lookIn, pastOf, expectIn, foreign, movedOf}
+use Rattle.walk.specs.Words.{leadIn}
+use Rattle.walk.specs.Walking.{stepped, stepOf}
+use Rattle.walk.proofs.OrderLaws.{looked}
+use Rattle.walk.proofs.KeptLaws.{expect-is, stands}
+
+module _ (s : Kept) (r : ℕ) (l : List ℕ) (k : ℕ) (e : k ≡ kindOf (codeAt l)) (next : ℕ) (n : next ≡ goto (s .place) k) where
+  pub placed-late : 99_999 < r → Judged.Bad 2 1 ≡ judgedOf (check (r ≤? 99_999) 2 1 ⨾ judgeLine chapter4 (pastOf s) l)
+  unfolding check _⨾_ judgedOf
+  placed-late h = rw (of> {m = r} {n = 99_999} h)
+
+  in-time : r ≤ 99_999 → check (r ≤? 99_999) 2 1 ⨾ judgeLine chapter4 (pastOf s) l ≡ judgeLine chapter4 (pastOf s) l
+  unfolding check _⨾_
+  in-time h = rw (of≤ h)
+
+  pub placed-bytes : r ≤ 99_999 → (b : Judged) → b ≡ judgedOf (bytes 80 1 l) → (m c : ℕ) → b ≡ Judged.Bad m c → Judged.Bad m c ≡ judgedOf (check (r ≤? 99_999) 2 1 ⨾ judgeLine chapter4 (pastOf s) l)
+  placed-bytes h b p m c q = rw (in-time h) (unfold judgeLine in sym (bad-then (bytes 80 1 l) _ m c (sym p ∙ q)))
+
+  module _ (h : r ≤ 99_999) (b : Judged) (p : b ≡ judgedOf (bytes 80 1 l)) (q : b ≡ Judged.Good) where
+    pub placed-long : 80 ≤ length l
+    placed-long = let t : 80 < length l = bytes-length 1 80 l (ap isOk (good-is (bytes 80 1 l) (sym p ∙ q)) ∙ (unfold isOk in refl)) in omega arith
+
+    -- after the bytes
+    coded : check (r ≤? 99_999) 2 1 ⨾ judgeLine chapter4 (pastOf s) l
+        ≡ check (k ≤? 13) 6 7 ⨾ check (mayStand (pastOf s) (codeAt l)) 7 7 ⨾ numbered chapter4 l ⨾ judge (expectation (pastOf s) (codeAt l)) (map (read l) (getD layouts k kept))
+    unfolding judgeLine knownCode entries layout
+    coded = in-time h ∙ (unfold judgeLine in good-then (bytes 80 1 l) _ (sym p ∙ q)) ∙ rw e
+
+    pub placed-code : 13 < k → Judged.Bad 6 7 ≡ judgedOf (check (r ≤? 99_999) 2 1 ⨾ judgeLine chapter4 (pastOf s) l)
+    placed-code t = rw coded (unfold check _⨾_ judgedOf in rw (of> {m = k} {n = 13} t))
+
+    module _ (t : k ≤ 13) where
+      known : kindOf (codeAt l) ≤ 13
+      known = rw (← e) t
+
+      stood : check (r ≤? 99_999) 2 1 ⨾ judgeLine chapter4 (pastOf s) l
+          ≡ check (1 ≤? next & not (foreign s k (getD l 7 0) (getD l 8 0))) 7 7 ⨾ numbered chapter4 l ⨾ judge (expectation (pastOf s) (codeAt l)) (map (read l) (getD layouts k kept))
+      unfolding check _⨾_
+      stood = coded ∙ rw (of≤ {m = k} {n = 13} t, stands l known s k e, ← n)
+
+      pub placed-order : next ≡ 0 → Judged.Bad 7 7 ≡ judgedOf (check (r ≤? 99_999) 2 1 ⨾ judgeLine chapter4 (pastOf s) l)
+      placed-order z = rw stood (unfold check _⨾_ judgedOf _&_ in rw (of> {m = 1} {n = next} (omega arith)))
+
+      module _ (z : next ≡ 0 → ⊥) (x : ℕ) (ex : x ≡ getD l 7 0) (y : ℕ) (ey : y ≡ getD l 8 0) (o : Bool) (u : o ≡ foreign s k x y) where
+        come : 1 ≤? next & not (foreign s k (getD l 7 0) (getD l 8 0)) ≡ not o
+        come = rw (of≤ {m = 1} {n = next} (above-0 next z), ← ex, ← ey, ← u) (true-and (not o))
+
+        pub placed-foreign : o ≡ true → Judged.Bad 7 7 ≡ judgedOf (check (r ≤? 99_999) 2 1 ⨾ judgeLine chapter4 (pastOf s) l)
+        placed-foreign w = rw stood (unfold check _⨾_ judgedOf in rw (come, w))
+
+        pub placed-rest : o ≡ false → (d : Expect) → d ≡ expectIn s k → {v : Judged} → v ≡ judgedOf (numbered chapter4 l ⨾ judge (expectOf d) (map (read l) (getD layouts k kept)))
+            → v ≡ judgedOf (check (r ≤? 99_999) 2 1 ⨾ judgeLine chapter4 (pastOf s) l)
+        placed-rest w d f g = g ∙ sym (rw stood (unfold check _⨾_ in rw (come, w, ← expect-is s k (codeAt l) e, f)))
+
+-- ---- the step
+pub next-is : (rows : List (List ℕ)) → rows ≡ order → (place k next : ℕ) → next ≡ lookIn rows place k → next ≡ goto place k
+next-is rows o place k next e = e ∙ ap (λ (t : List (List ℕ)). lookIn t place k) o ∙ looked place k
+
+module _ (s : Kept) (r : ℕ) (l : List ℕ) (k : ℕ) (e : k ≡ kindOf (codeAt l)) (v : Judged) (p : v ≡ judgedOf (check (r ≤? 99_999) 2 1 ⨾ judgeLine chapter4 (pastOf s) l)) where
+  pub step-fault : (n c : ℕ) → v ≡ Judged.Bad n c → Fault n c ≡ stepOf s r l
+  unfolding stepOf stepped
+  step-fault n c q = rw (bad-is _ n c (sym p ∙ q))
+
+  pub step-next : v ≡ Judged.Good → (rows : List (List ℕ)) → rows ≡ order → (next : ℕ) → next ≡ lookIn rows (s .place) k
+      → (x : ℕ) → x ≡ getD l 7 0 → (y : ℕ) → y ≡ getD l 8 0 → (lead : ℕ) → lead ≡ leadIn k l → (u : Kept) → u ≡ movedOf s next k x y lead → Next u ≡ stepOf s r l
+  unfolding stepOf stepped
+  step-next q rows o next w x ex y ey lead el u eu = rw (good-is _ (sym p ∙ q)) (ap Next (eu ∙ rw (next-is rows o (s .place) k next w, ex, ey, el, e)))

@@ -1,0 +1,66 @@
+use Rattle.walk.proofs.StepLaws.{next-is, step-fault, step-next}
+use borrow.Author.Needs.{needs}
+use Rattle.walk.proofs.records.step.Statement.{statement}
+use Rattle.walk.proofs.records.step.Tie as tie
+use Rattle.walk.proofs.records.step.Reads as reads
+use Rattle.walk.proofs.records.step.Lts as lts
+use Rattle.columns.proofs.parts.byte_at.Reads as byte-at-reads
+use Rattle.walk.proofs.kept.moved.Reads as moved-reads
+use Rattle.walk.proofs.order.look_up.Reads as look-up-reads
+use Rattle.walk.proofs.records.judge_placed.Reads as judge-placed-reads
+use Rattle.walk.proofs.words.leading.Reads as leading-reads
+
+-- src/records.rt:79:9
+look-up-requires : tie.Need-look-up-requires
+look-up-requires c κs = search needs
+
+-- src/records.rt:80:11
+judge-placed-requires : tie.Need-judge-placed-requires
+judge-placed-requires c κs = search (next-is, needs)
+
+-- src/records.rt:81:21
+enum-known-n : tie.Need-enum-known-n
+enum-known-n c = search needs
+
+-- src/records.rt:86:13
+enum-told : tie.Need-enum-told
+enum-told c = search needs
+
+-- src/records.rt:86:13
+byte-at-requires : tie.Need-byte-at-requires
+byte-at-requires c κs = search needs
+
+-- src/records.rt:87:13
+byte-at-requires-2 : tie.Need-byte-at-requires-2
+byte-at-requires-2 c κs = search needs
+
+-- src/records.rt:88:13
+leading-requires : tie.Need-leading-requires
+leading-requires c κs = search needs
+
+-- src/records.rt:82:39
+moved-requires : tie.Need-moved-requires
+moved-requires c κs = search needs
+
+-- src/records.rt:75:1
+returns : tie.Need-returns
+returns c = search (step-fault, needs)
+
+-- src/records.rt:75:1
+returns-2 : tie.Need-returns-2
+returns-2 c = search (step-next, needs)
+
+pub step-spec : {M : Type 1} → statement M
+step-spec =
+    tie.close
+    (tie.spec
+    look-up-requires
+    judge-placed-requires
+    enum-known-n
+    enum-told
+    byte-at-requires
+    byte-at-requires-2
+    leading-requires
+    moved-requires
+    returns
+    returns-2)

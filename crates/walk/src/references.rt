@@ -1,0 +1,84 @@
+// 11 and 12: what the records say of each other, by the words of the table.
+use crate::records::refused;
+use crate::words::word_at;
+use judging::codes::kind_at;
+use kinds::Checked;
+use kinds::Judged;
+use kinds::Occupation;
+use kinds::Point;
+use reading::lines::count_begun;
+use reading::lines::line;
+use reading::values::number_in;
+ghost use mathlib.Core.Path.{_≡_};
+ghost use lib.ListN.{length};
+ghost use Prim.Native.Nat.{_≤_};
+ghost use Rattle.kinds.specs.Values.{judgedOf, checkedOf};
+ghost use Rattle.walk.specs.References.{firstIn, namedIn, refIn, Referable, referredOf};
+
+fn size(n: u32) -> usize
+    ensures { λ r. ⌜ r ≡ n ⌝ }
+{
+    n as usize
+}
+
+// 11: an *80* is the first with its station number.
+fn judge_first(words: &[u32], r: usize, line: &[u8]) -> Judged
+    ensures { λ v. ⌜ v ≡ judgedOf (firstIn (now (words .entry)) r (now (line .entry))) ⌝ }
+{
+    let station = number_in(line, Point::STATION, Point::STATION_WIDTH);
+    let first = word_at(words, size(station));
+    if size(first) == r {
+        return Judged::Good;
+    }
+    Judged::Bad(11, Point::STATION)
+}
+
+// 12: a *25* names a defined station, instrument and antenna.
+fn judge_named(words: &[u32], line: &[u8]) -> Judged
+    ensures { λ v. ⌜ v ≡ judgedOf (namedIn (now (words .entry)) (now (line .entry))) ⌝ }
+{
+    let station = number_in(line, Occupation::STATION, Occupation::STATION_WIDTH);
+    if word_at(words, size(station)) == 0 {
+        return Judged::Bad(12, Occupation::STATION);
+    }
+    let instrument = number_in(line, Occupation::INSTRUMENT, Occupation::INSTRUMENT_WIDTH);
+    if word_at(words, 10_000 + size(instrument)) == 0 {
+        return Judged::Bad(12, Occupation::INSTRUMENT);
+    }
+    let antenna = number_in(line, Occupation::ANTENNA, Occupation::ANTENNA_WIDTH);
+    if word_at(words, 11_000 + size(antenna)) == 0 {
+        return Judged::Bad(12, Occupation::ANTENNA);
+    }
+    Judged::Good
+}
+
+fn judge_references(words: &[u32], r: usize, line: &[u8], kind: usize) -> Judged
+    ensures { λ v. ⌜ v ≡ judgedOf (refIn (now (words .entry)) r kind (now (line .entry))) ⌝ }
+{
+    if kind == 9 {
+        return judge_first(words, r, line);
+    }
+    if kind == 4 {
+        return judge_named(words, line);
+    }
+    Judged::Good
+}
+
+// The first of these faults, or v, which accepts.
+pub(crate) fn refer_records(file: &[u8], words: &[u32], v: Checked) -> Checked
+    requires { ⌜ Referable (now file) (now words) v ⌝ }
+    ensures { λ a. ⌜ a ≡ referredOf (now (file .entry)) ⌝ }
+{
+    let n = count_begun(file);
+    let mut i: usize = 0;
+    while i < n {
+        let l = line(file, i);
+        let kind = kind_at(l);
+        let j = judge_references(words, i + 1, l, kind);
+        if let Judged::Bad(number, column) = j {
+            return refused(number, i + 1, column);
+        }
+        i += 1;
+    }
+    v
+}
