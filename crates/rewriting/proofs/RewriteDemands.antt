@@ -1,0 +1,147 @@
+-- Demand 3 as a fact about runs of rewrite, from its promise alone.
+use mathlib.Core.Path.{_≡_, refl, sym, _∙_, ap, ap₂, subst}
+use mathlib.Core.Logic.{_↔_}
+use mathlib.Core.Bool.{Bool, true, false, cond, false≢true}
+use mathlib.Core.List.{List, [], _∷_, _++_, map}
+use Prim.Native.Nat.{ℕ, zero, suc, _+_, _*_, _≤_, _<_}
+use native.Mathlib.Omega.{arith}
+use lib.ListN.{length, take, drop, getD}
+use lib.Seq.{take-at, drop-at}
+use Rattle.rules.specs.Tests.{_&_, _≤?_, _=?_}
+use Rattle.rules.specs.Items.{valueOf}
+use Rattle.rules.specs.Records.{sequence, codeAt}
+use Rattle.rules.specs.Kinds.{kindOf}
+use Rattle.rules.specs.Files.{Result, accept, refuse, isAccept, lines, meanings, verdict, accepted, rewritten}
+use Rattle.rules.specs.References.{words, counts}
+use Rattle.rules.specs.Calls.{outcome, bigTable, bigOutput, answer, tableLeft, outputLeft, checkAnswer, checkTable, rewriteRoom, rewriteAnswer, rewriteTable, rewriteOutput}
+use Rattle.rules.specs.Chapter4.{chapter4}
+use Rattle.rules.specs.Demands.{Demand3}
+use Rattle.rules.proofs.Truth.{both, and, of≤, to≤, cases}
+use Rattle.rules.proofs.FileLaws.{keeps-length}
+use Rattle.rules.proofs.Chapter4Laws.{sound}
+use Rattle.rules.proofs.ReferenceLaws.{length-words}
+use Rattle.rules.proofs.Numbered.{zero-accepts}
+use Rattle.rules.proofs.Demands.{demand-3}
+use Rattle.kinds.specs.declared.Checked.{Checked}
+use Rattle.kinds.specs.Values.{checkedOf}
+use Rattle.walk.specs.Promise as check
+use Rattle.rewriting.specs.Promise.{Promised, Run, styled, Rewrites}
+
+-- 01, "Prove that two results allowed by one promise are equal"
+pub one-result : (f t o : List ℕ) (v w : Checked) (u x p q : List ℕ) → Promised f t o v u p → Promised f t o w x q → (v ≡ w) × (u ≡ x) × (p ≡ q)
+one-result f t o v w u x p q a b = (a .answered ∙ sym (b .answered), a .left ∙ sym (b .left), a .written ∙ sym (b .written))
+
+is-accept : (x : Result) → isAccept x ≡ true → x ≡ accept
+unfolding isAccept
+is-accept accept h = refl
+is-accept (refuse n r c) h = absurd (false≢true h)
+
+-- ---- a run with room over an accepted file
+module _ (f t o : List ℕ) (v : Checked) (u p : List ℕ) (h : 12_000 ≤ length t) (k : length f ≤ length o) (good : accepted chapter4 f ≡ true) (promised : Promised f t o v u p) where
+  room : rewriteRoom f t o ≡ true
+  unfolding rewriteRoom bigTable bigOutput
+  room = and (of≤ h) (of≤ k)
+
+  takes : isAccept (outcome true f) ≡ true
+  unfolding outcome
+  takes = unfold accepted in good
+
+  pub answers-zero : v .fault .number ≡ 0
+  answers-zero = ap (λ (y : Checked). y .fault .number) (promised .answered) ∙ (unfold rewriteAnswer in rw (room, is-accept (outcome true f) takes) (unfold checkedOf answer in refl))
+
+  pub writes : p ≡ rewritten chapter4 f ++ drop (length f) o
+  unfolding rewriteOutput outputLeft
+  writes = promised .written ∙ (unfold rewriteOutput outputLeft in rw (room, takes))
+
+  pub writes-first : take (length f) p ≡ rewritten chapter4 f
+  writes-first = ap (take (length f)) writes ∙ take-at (rewritten chapter4 f) (drop (length f) o) (length f) (keeps-length chapter4 sound f good)
+
+  pub writes-beyond : drop (length f) p ≡ drop (length f) o
+  writes-beyond = ap (drop (length f)) writes ∙ drop-at (rewritten chapter4 f) (drop (length f) o) (length f) (keeps-length chapter4 sound f good)
+
+-- ---- what a run that took its file tells
+module _ (a : List ℕ) (x : Run a) where
+  enough : Bool
+  enough = rewriteRoom a (x .table) (x .output)
+
+  answered-well : isAccept (outcome enough a) ≡ true
+  unfolding enough
+  answered-well = zero-accepts enough a (meanings chapter4 a) (unfold checkedOf rewriteAnswer in (rw (x .promised .answered) at (x .accepted)))
+
+  roomy : (rewriteRoom a (x .table) (x .output) ≡ true) × (accepted chapter4 a ≡ true)
+  roomy = by enough refl answered-well
+    where
+      by : (b : Bool) → b ≡ enough → isAccept (outcome b a) ≡ true → (rewriteRoom a (x .table) (x .output) ≡ true) × (accepted chapter4 a ≡ true)
+      by true e g = (unfold enough in sym e, unfold accepted outcome in g)
+      by false e g = absurd (false≢true (unfold outcome isAccept in g))
+
+  wide : (12_000 ≤ length (x .table)) × (length a ≤ length (x .output))
+  unfolding rewriteRoom bigTable bigOutput
+  wide = let b = both (roomy .0) in (to≤ (b .0), to≤ (b .1))
+
+  good : accepted chapter4 a ≡ true
+  good = roomy .1
+
+  pub its-style : styled x ≡ rewritten chapter4 a
+  unfolding styled
+  its-style = writes-first a (x .table) (x .output) (x .answer) (x .table-left) (x .output-left) (wide .0) (wide .1) good (x .promised)
+
+  its-rest : drop (length a) (x .output-left) ≡ drop (length a) (x .output)
+  its-rest = writes-beyond a (x .table) (x .output) (x .answer) (x .table-left) (x .output-left) (wide .0) (wide .1) good (x .promised)
+
+  -- the answer and the words go by the meaning alone
+  verdict-accept : verdict chapter4 a ≡ accept
+  verdict-accept = is-accept (verdict chapter4 a) (unfold accepted in good)
+
+  its-answer : x .answer ≡ checkedOf (answer accept (meanings chapter4 a))
+  its-answer = x .promised .answered ∙ (unfold rewriteAnswer outcome in rw (roomy .0, verdict-accept))
+
+  its-words : take 12_000 (x .table-left) ≡ words (meanings chapter4 a)
+  its-words = ap (take 12_000) left ∙ take-at (words (meanings chapter4 a)) (drop 12_000 (x .table)) 12_000 (length-words (meanings chapter4 a))
+    where
+      left : x .table-left ≡ words (meanings chapter4 a) ++ drop 12_000 (x .table)
+      left = x .promised .left ∙ (unfold rewriteTable tableLeft isAccept in rw (roomy .0, verdict-accept))
+
+-- a check of an accepted file with a full-size table
+module _ (f t : List ℕ) (v : Checked) (u : List ℕ) (h : 12_000 ≤ length t) (good : accepted chapter4 f ≡ true) (p : check.Promised f t v u) where
+  through : verdict chapter4 f ≡ accept
+  through = is-accept (verdict chapter4 f) (unfold accepted in good)
+
+  checks : v ≡ checkedOf (answer accept (meanings chapter4 f))
+  checks = p .answered ∙ (unfold checkAnswer outcome bigTable in rw (of≤ {m = 12_000} {n = length t} h, through))
+
+  fills : take 12_000 u ≡ words (meanings chapter4 f)
+  fills = ap (take 12_000) left ∙ take-at (words (meanings chapter4 f)) (drop 12_000 t) 12_000 (length-words (meanings chapter4 f))
+    where
+      left : u ≡ words (meanings chapter4 f) ++ drop 12_000 t
+      left = p .left ∙ (unfold checkTable tableLeft bigTable isAccept in rw (of≤ {m = 12_000} {n = length t} h, through))
+
+-- ---- demand 3
+pub demand-3-rewrite : (a b : List ℕ) (x : Run a) (y : Run b) → Rewrites a b x y
+demand-3-rewrite a b x y = record {
+  same = subst (λ (s : List ℕ). (s ≡ styled y) ↔ (meanings chapter4 a ≡ meanings chapter4 b)) (sym (its-style a x)) (subst (λ (s : List ℕ). (rewritten chapter4 a ≡ s) ↔ (meanings chapter4 a ≡ meanings chapter4 b)) (sym (its-style b y)) (d .same));
+  means = ap (meanings chapter4) (its-style a x) ∙ d .means;
+  as-many = ap (λ (s : List ℕ). length (lines s)) (its-style a x) ∙ d .as-many;
+  as-long = ap length (its-style a x) ∙ d .as-long;
+  kinds = ap (λ (s : List ℕ). map (λ l. kindOf (codeAt l)) (lines s)) (its-style a x) ∙ d .kinds;
+  numbered = λ i k. ap (λ (s : List ℕ). valueOf sequence (take 6 (getD (lines s) i []))) (its-style a x) ∙ d .numbered i k;
+  beyond = its-rest a x;
+  accepted-again = λ t v u h p. (
+    checks (styled x) t v u h again p ∙ ap (λ ms. checkedOf (answer accept ms)) means ∙ sym (its-answer a x),
+    fills (styled x) t v u h again p ∙ ap words means ∙ sym (its-words a x),
+  );
+  settled = λ t o v u p h k q.
+      ap (λ n. take n p) (sym long) ∙ writes-first (styled x) t o v u p h (subst (λ n. n ≤ length o) (sym long) k) again q ∙ ap (rewritten chapter4) (its-style a x) ∙ d .settled ∙ sym (its-style a x);
+}
+  where
+    d : Demand3 a b
+    d = demand-3 a b (good a x) (good b y)
+
+    means : meanings chapter4 (styled x) ≡ meanings chapter4 a
+    means = ap (meanings chapter4) (its-style a x) ∙ d .means
+
+    long : length (styled x) ≡ length a
+    long = ap length (its-style a x) ∙ d .as-long
+
+    again : accepted chapter4 (styled x) ≡ true
+    again = ap (accepted chapter4) (its-style a x) ∙ d .accepted-again

@@ -1,0 +1,54 @@
+-- What rewrite promises of its answer v, the table u that it leaves of t and the output p that it leaves of o; and demand 3 of two runs.
+use mathlib.Core.Path.{_≡_}
+use mathlib.Core.Logic.{_↔_}
+use mathlib.Core.List.{List, [], map}
+use Prim.Native.Nat.{ℕ, _+_, _*_, _≤_, _<_}
+use lib.ListN.{length, take, drop, getD}
+use lib.IntN.{pos}
+use Rattle.rules.specs.Items.{num, valueOf}
+use Rattle.rules.specs.Records.{sequence, codeAt}
+use Rattle.rules.specs.Kinds.{kindOf}
+use Rattle.rules.specs.Files.{lines, meanings}
+use Rattle.rules.specs.Calls.{rewriteAnswer, rewriteTable, rewriteOutput}
+use Rattle.rules.specs.Chapter4.{chapter4}
+use Rattle.kinds.specs.declared.Checked.{Checked}
+use Rattle.kinds.specs.Values.{checkedOf}
+use Rattle.walk.specs.Promise as check
+
+pub record Promised (f t o : List ℕ) (v : Checked) (u p : List ℕ) : Type 0 where
+  pub answered : v ≡ checkedOf (rewriteAnswer f t o)
+  pub left : u ≡ rewriteTable f t o
+  pub written : p ≡ rewriteOutput f t o
+
+-- a run that took the file f
+pub record Run (f : List ℕ) : Type 0 where
+  pub table : List ℕ
+  pub output : List ℕ
+  pub answer : Checked
+  pub table-left : List ℕ
+  pub output-left : List ℕ
+  pub promised : Promised f table output answer table-left output-left
+  pub accepted : answer .fault .number ≡ 0
+
+-- the rewritten file: as many bytes as the file had
+unfoldable pub styled : {f : List ℕ} → Run f → List ℕ
+styled {f} run = take (length f) (run .output-left)
+
+-- demand 3 of a run over a and one over b
+pub record Rewrites (a b : List ℕ) (x : Run a) (y : Run b) : Type 0 where
+  -- the same bytes exactly when the files mean the same
+  pub same : (styled x ≡ styled y) ↔ (meanings chapter4 a ≡ meanings chapter4 b)
+  -- what was rewritten means what its source meant, with as many records and the same kind at each place, record r numbered 10 x r
+  pub means : meanings chapter4 (styled x) ≡ meanings chapter4 a
+  pub as-many : length (lines (styled x)) ≡ length (lines a)
+  pub as-long : length (styled x) ≡ length a
+  pub kinds : map (λ l. kindOf (codeAt l)) (lines (styled x)) ≡ map (λ l. kindOf (codeAt l)) (lines a)
+  pub numbered : (i : ℕ) → i < length (lines a) → valueOf sequence (take 6 (getD (lines (styled x)) i [])) ≡ num (pos (10 * (1 + i)))
+  -- bytes of the output behind it stay
+  pub beyond : drop (length a) (x .output-left) ≡ drop (length a) (x .output)
+  -- every check of it with a full-size table accepts it, with the counts and the words of its source
+  pub accepted-again : (t : List ℕ) (v : Checked) (u : List ℕ) → 12_000 ≤ length t → check.Promised (styled x) t v u
+      → (v ≡ x .answer) × (take 12_000 u ≡ take 12_000 (x .table-left))
+  -- every rewriting of it with room and a full-size table leaves the same bytes
+  pub settled : (t o : List ℕ) (v : Checked) (u p : List ℕ) → 12_000 ≤ length t → length a ≤ length o → Promised (styled x) t o v u p
+      → take (length a) p ≡ styled x

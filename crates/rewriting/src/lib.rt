@@ -1,0 +1,49 @@
+// An accepted file in house style, into a lent output.
+use judging::codes::kind_at;
+use kinds::Checked;
+use reading::lines::count_begun;
+use reading::lines::line;
+use walk::check;
+use walk::records::refused;
+use writing::styles::restyle;
+ghost use mathlib.Core.Path.{_≡_};
+ghost use mathlib.Core.Bool.{true};
+ghost use mathlib.Core.List.{_++_};
+ghost use Prim.Native.Nat.{_≤_};
+ghost use lib.ListN.{length, drop};
+ghost use Rattle.rules.specs.Files.{lines, formedLines, rewritten};
+ghost use Rattle.rules.specs.Calls.{rewriteAnswer, rewriteTable, rewriteOutput};
+ghost use Rattle.rules.specs.Chapter4.{chapter4};
+ghost use Rattle.kinds.specs.Values.{checkedOf};
+
+// Each record's values and texts anew, record r with the sequence number 10 x r. The lines are good, so none is judged again.
+fn style_lines(file: &[u8], out: &mut [u8])
+    requires { ⌜ (formedLines chapter4 1 (lines (now file)) ≡ true) × (length (now file) ≤ length (now out)) ⌝ }
+    ensures { λ _. ⌜ now (out .exit) ≡ rewritten chapter4 (now (file .entry)) ++ drop (length (now (file .entry))) (now (out .entry)) ⌝ }
+{
+    let n = count_begun(file);
+    let mut i: usize = 0;
+    while i < n {
+        let l = line(file, i);
+        let a = 81 * i;
+        let e = a + 81;
+        restyle(l, kind_at(l), 10 * (i as u32 + 1), &mut out[a..e]);
+        i += 1;
+    }
+}
+
+// Table and faults as for check. The output gets the rewritten file from its first byte on; a refusal leaves it as it was.
+pub fn rewrite(file: &[u8], table: &mut [u32], out: &mut [u8]) -> Checked
+    ensures answer { λ v. ⌜ v ≡ checkedOf (rewriteAnswer (now (file .entry)) (now (table .entry)) (now (out .entry))) ⌝ }
+    ensures table { λ _. ⌜ now (table .exit) ≡ rewriteTable (now (file .entry)) (now (table .entry)) (now (out .entry)) ⌝ }
+    ensures out { λ _. ⌜ now (out .exit) ≡ rewriteOutput (now (file .entry)) (now (table .entry)) (now (out .entry)) ⌝ }
+{
+    if out.len() < file.len() {
+        return refused(1, 0, 0);
+    }
+    let v = check(file, table);
+    if v.fault.number == 0 {
+        style_lines(file, out);
+    }
+    v
+}
