@@ -3,6 +3,7 @@
 
 mod columns;
 mod faults;
+mod files_tried;
 mod generated;
 mod reading;
 mod sample;

@@ -1,0 +1,80 @@
+//! The files that `crates/files_tried` is run on, each with the verdict that
+//! the rule paper gives it, found by hand and not by running anything.
+//!
+//! `cargo run --example files_tried_data` writes them.
+
+mod accepted;
+mod changed;
+mod refused;
+mod survey;
+
+/// A whole file to try.
+pub struct Specimen {
+    /// The file's name without `.bfile`.
+    pub name: &'static str,
+    /// Fault number, record and column.
+    pub verdict: (u32, u64, u64),
+    /// What is in the file, and why the verdict is that one.
+    pub why: &'static str,
+    pub file: Vec<u8>,
+}
+
+/// All of them, in the order in which they are tried: the refused ones by
+/// name, and so by fault number.
+pub fn specimens() -> Vec<Specimen> {
+    let mut all = accepted::specimens();
+    let mut refused = refused::specimens();
+    refused.extend(changed::specimens());
+    refused.sort_by_key(|one| one.name);
+    all.extend(refused);
+    all
+}
+
+impl Specimen {
+    fn good(name: &'static str, why: &'static str, file: Vec<u8>) -> Specimen {
+        Specimen::bad(name, (0, 0, 0), why, file)
+    }
+
+    fn bad(
+        name: &'static str,
+        verdict: (u32, u64, u64),
+        why: &'static str,
+        file: Vec<u8>,
+    ) -> Specimen {
+        Specimen {
+            name,
+            verdict,
+            why,
+            file,
+        }
+    }
+
+    pub fn file_name(&self) -> String {
+        format!("{}.bfile", self.name)
+    }
+}
+
+/// The page beside the files: a row for each.
+pub fn page(all: &[Specimen]) -> String {
+    let mut page = String::from(HEAD);
+    for one in all {
+        let (number, record, column) = one.verdict;
+        let name = one.file_name();
+        let why = one.why;
+        page.push_str(&format!(
+            "| `{name}` | {number} | {record} | {column} | {why} |\n"
+        ));
+    }
+    page
+}
+
+const HEAD: &str = "\
+# The files tried
+
+Each is a whole B-file. The verdict is the rule paper's, found by hand; `rust/tests/paper/files_tried.rs` holds this table against the plain implementation, and the program prints the verdicts of the proved calls in the same order. Most are changes of one small file of 13 records: job code, *10*, *12*, *25*, two *27*, two *70*, two *72*, *80*, *86*, job code.
+
+Fault 1 is tried on an accepted and on a refused one of these, with a table of 11,999 words and with an output of one byte less than the file. Fault 2 would take a file of 8 MB.
+
+| file | fault | record | column | what is in it, and why |
+|---|---|---|---|---|
+";

@@ -1,0 +1,113 @@
+//! The files that the program of files is run on: the table beside them says
+//! what the rule paper says of each, and here the plain implementation is
+//! asked.
+
+use crate::sample::{columns, house, verdict, ACCEPTED};
+use shelf::plain::{check, TABLE_WORDS};
+use shelf::specimens::{page, specimens};
+use std::fs;
+use std::path::PathBuf;
+
+fn folder() -> PathBuf {
+    PathBuf::from(env!("CARGO_MANIFEST_DIR")).join("../crates/files_tried")
+}
+
+fn data(name: &str) -> Vec<u8> {
+    fs::read(folder().join("data").join(name)).unwrap()
+}
+
+/// The rows of the table: name, fault number, record, column.
+fn rows() -> Vec<(String, (u32, u64, u64))> {
+    let table = String::from_utf8(data("README.md")).unwrap();
+    let rows = table.lines().filter(|line| line.starts_with("| `"));
+    rows.map(|row| {
+        let cells: Vec<&str> = row.split('|').map(str::trim).collect();
+        let number = |cell: usize| cells[cell].parse().unwrap();
+        let name = cells[1].trim_matches('`').to_string();
+        (name, (number(2) as u32, number(3), number(4)))
+    })
+    .collect()
+}
+
+#[test]
+fn the_table_says_what_is_found() {
+    let rows = rows();
+    assert!(rows.len() > 80);
+    for (name, expected) in rows {
+        assert_eq!(verdict(&data(&name)), expected, "{name}");
+    }
+}
+
+#[test]
+fn the_table_has_every_file_in_the_order_of_the_arguments() {
+    let names: Vec<String> = rows().into_iter().map(|(name, _)| name).collect();
+    let arguments = fs::read_to_string(folder().join("args")).unwrap();
+    assert_eq!(arguments.lines().collect::<Vec<_>>(), names);
+    let entries = fs::read_dir(folder().join("data")).unwrap();
+    let mut files: Vec<String> = entries
+        .map(|entry| entry.unwrap().file_name().into_string().unwrap())
+        .filter(|name| name != "README.md")
+        .collect();
+    files.sort();
+    let mut sorted = names.clone();
+    sorted.sort();
+    assert_eq!(files, sorted);
+}
+
+#[test]
+fn the_files_are_those_that_are_made() {
+    let all = specimens();
+    for one in &all {
+        assert_eq!(data(&one.file_name()), one.file, "{}", one.name);
+    }
+    assert_eq!(data("README.md"), page(&all).into_bytes());
+}
+
+/// Every fault of a file but 1 and 2, which need no file or a larger one.
+#[test]
+fn every_fault_is_tried() {
+    let rows = rows();
+    for number in [0].into_iter().chain(3..=12) {
+        assert!(rows.iter().any(|(_, found)| found.0 == number), "{number}");
+    }
+}
+
+#[test]
+fn the_slips_are_rewritten_as_they_should_be() {
+    let blank_comment = house(&data("slip_86_with_blank_comment.bfile"));
+    assert_eq!(
+        columns(&blank_comment, 12, 7, 47),
+        columns(&house(&data("accepted_third_27.bfile")), 13, 7, 47)
+    );
+    let heights = house(&data("slip_blank_height_is_missing.bfile"));
+    assert_eq!(columns(&heights, 12, 17, 7), "       ");
+    assert_eq!(columns(&heights, 14, 17, 7), "0000000");
+    let below = house(&data("slip_half_metre_below.bfile"));
+    assert_eq!(columns(&below, 12, 17, 7), "-000500");
+    assert_eq!(columns(&below, 5, 56, 5), "-0500");
+}
+
+#[test]
+fn the_same_meaning_is_the_same_file() {
+    let first = data("dress_house.bfile");
+    let second = data("dress_other.bfile");
+    assert_ne!(first, second);
+    assert_eq!(house(&first), first);
+    assert_eq!(house(&second), first);
+    assert_ne!(house(&data("dress_other_meaning.bfile")), first);
+}
+
+#[test]
+fn the_counts_are_those_of_the_records() {
+    let file = data("accepted_all_kinds.bfile");
+    let counts = check(&file, &mut [0; TABLE_WORDS]).counts;
+    assert_eq!(counts, [2, 1, 1, 1, 3, 3, 7, 3, 2, 3, 3, 2, 1, 1]);
+    let long = data("accepted_two_thousand_records.bfile");
+    assert_eq!(verdict(&long), ACCEPTED);
+    let counts = check(&long, &mut [0; TABLE_WORDS]).counts;
+    assert_eq!(
+        counts,
+        [2, 1, 0, 1, 300, 300, 700, 20, 10, 300, 300, 90, 0, 1]
+    );
+    assert_eq!(long.len(), 81 * 2_025);
+}
