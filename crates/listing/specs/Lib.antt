@@ -1,0 +1,3 @@
+-- What the promises of `listing` cite besides the rules.
+pub mod Laying
+pub mod Listing
