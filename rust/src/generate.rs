@@ -633,7 +633,7 @@ pub fn damage(dice: &mut Dice, file: &mut Vec<u8>, way: Damage) {
 }
 
 /// Fills a field with what numbers, heights, angles and codes go wrong on.
-fn telling(dice: &mut Dice, field: &mut [u8]) {
+pub fn telling(dice: &mut Dice, field: &mut [u8]) {
     let width = field.len();
     match dice.below(8) {
         0 => field.fill(b' '),

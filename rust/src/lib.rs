@@ -1,8 +1,15 @@
-//! The deposit shelf in plain Rust, written from the rule paper alone.
+//! The deposit shelf from Rust: the proved library called safely, and the
+//! same rules in plain Rust.
 //!
-//! It exists to be compared with: it shares no code with the proved
-//! program, so that both giving the same answer says something about both.
+//! `plain` is written from the rule paper alone and exists to be compared
+//! with: it shares no code with the proved program, so that both giving the
+//! same answer says something about both.
 
+pub mod calls;
 pub mod generate;
+pub mod library;
 pub mod plain;
+pub mod sample;
 pub mod specimens;
+#[cfg(feature = "standin")]
+mod standin;

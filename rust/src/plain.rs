@@ -2,17 +2,20 @@
 //!
 //! From below: `fields` reads and writes one field, `layout` says which
 //! fields a record has, `records` handles one record by itself, `walk`
-//! handles a whole file, `sheet` prints.
+//! handles a whole file, `sheet` prints, `words` puts answers into the form
+//! of the library's header.
 
 pub mod fields;
 pub mod layout;
 mod records;
 mod sheet;
 mod walk;
+mod words;
 
 pub use records::{field, read, write, Reading};
 pub use sheet::sheet;
 pub use walk::{check, rewrite};
+pub use words::Plain;
 
 /// Words of the station table that belong to the shelf.
 pub const TABLE_WORDS: usize = 12_000;

@@ -1,0 +1,107 @@
+/* The deposit shelf's library: target/staticlib/libexport.a.
+ *
+ * Every call may be given every file, number and value, and every length of
+ * what is lent; nothing is kept after it returns. A pointer is not null and
+ * is aligned, also where its length is 0, and no lent part overlaps another
+ * part of the same call.
+ *
+ * An answer shorter than the call needs means that the call touches nothing
+ * at all. Words of an answer beyond those named here stay as they are.
+ *
+ * number, record and column are the scope paper's fault: 0 0 0 is acceptance.
+ * A kind is 0 to 13, in the order AA 10 11 12 25 26 27 70 72 80 86 91 92 93.
+ */
+#ifndef SHELF_H
+#define SHELF_H
+
+#include <stddef.h>
+#include <stdint.h>
+
+#ifdef __cplusplus
+extern "C" {
+#endif
+
+/* The words that each call's answer needs, and those of the table. */
+#define SHELF_CHECK_ANSWER 17
+#define SHELF_REWRITE_ANSWER 17
+#define SHELF_READ_ANSWER 32
+#define SHELF_FIELD_ANSWER 2
+#define SHELF_WRITE_ANSWER 3
+#define SHELF_TABLE_WORDS 12000
+
+/* A missing height, in what shelf_read gives and shelf_write takes. */
+#define SHELF_MISSING INT64_MIN
+
+/* Judges a file.
+ *
+ * answer: number, record, column, then the fourteen counts in the order of
+ * the kinds, all 0 on a refusal.
+ * table: on acceptance word n is the record number of station n's *80*, word
+ * 10,000 + n of instrument n's *70*, word 11,000 + n of antenna n's *72*, 0
+ * where there is none. A table below 12,000 words is fault 1 and is not
+ * touched; every other refusal puts 0 into its first 12,000 words. Words
+ * beyond those stay. */
+void shelf_check(const uint8_t *file, size_t len,
+                 uint32_t *table, size_t words,
+                 uint32_t *answer, size_t answers);
+
+/* Judges a file and puts it into out in house style.
+ *
+ * answer and table: as shelf_check. An output shorter than the file is fault
+ * 1 too, and then neither table nor output is touched. On acceptance the
+ * first len bytes of out are the rewritten file; the rest of it stays, and a
+ * refusal leaves all of it as it was. */
+void shelf_rewrite(const uint8_t *file, size_t len,
+                   uint32_t *table, size_t words,
+                   uint8_t *out, size_t room,
+                   uint32_t *answer, size_t answers);
+
+/* Reads one record by its number, from 1, judged by itself.
+ *
+ * answer: number, record, column, the kind (-1 on a refusal), the sequence
+ * number (-1 missing), then the values in column order; unused words are 0,
+ * and on a refusal so are the sequence number's and all values' words.
+ * Values: of a job-code record the two characters of its code first. From
+ * column 11 on a number, a height in millimetres (missing: SHELF_MISSING)
+ * and an angle in hundred-thousandths of a second, north and east positive,
+ * one word each; a date of a *12* one word YYYYMM; a code of at most four
+ * columns one word for each character; the media identifier maker
+ * (character), day, digit of the year (0 to 9), session (character), four
+ * characters. Blank fields, the constant 4 and texts of more than four
+ * columns have no word: shelf_field gives the texts. */
+void shelf_read(const uint8_t *file, size_t len, uint32_t record,
+                int64_t *answer, size_t answers);
+
+/* Finds the columns of a record's field, named by its first column.
+ *
+ * answer: where the field starts, in bytes from the file's first, and its
+ * length; 0 and 0 if shelf_read refuses the record or no field from column
+ * 11 on starts in that column. */
+void shelf_field(const uint8_t *file, size_t len,
+                 uint32_t record, uint32_t column,
+                 uint64_t *answer, size_t answers);
+
+/* Writes one record of 81 bytes in house style.
+ *
+ * values: the kind, the sequence number (-1 missing), then the values as
+ * shelf_read gives them; words beyond those of the kind are not looked at.
+ * first, second, third: the texts of more than four columns in column order,
+ * each of its field's exact width; those a kind does not have are not looked
+ * at.
+ * answer: number, record (always 0), column. 1 is an output below 81 bytes,
+ * 9 a value, text, kind or job code that no field holds or a word that
+ * count leaves out, at its field's first column (sequence number 1, kind and
+ * job code 7), 10 a disagreement inside the record; the first from the left
+ * counts. A refusal leaves out as it was; bytes beyond the record stay. */
+void shelf_write(uint8_t *out, size_t room,
+                 const int64_t *values, size_t count,
+                 const uint8_t *first, size_t first_len,
+                 const uint8_t *second, size_t second_len,
+                 const uint8_t *third, size_t third_len,
+                 uint32_t *answer, size_t answers);
+
+#ifdef __cplusplus
+}
+#endif
+
+#endif

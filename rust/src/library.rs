@@ -1,0 +1,248 @@
+//! The proved library, called safely.
+//!
+//! [`Library`] has the five calls in the word form of `include/shelf.h`; the
+//! functions below it give the same answers as values, for the command line.
+
+use crate::calls::{
+    Calls, CHECK_WORDS, FIELD_WORDS, FIRST_VALUE_WORD, KIND_WORD, NO_SEQUENCE, READ_WORDS,
+    SEQUENCE_WORD, WRITE_WORDS,
+};
+
+/// Words of the station table.
+pub const TABLE_WORDS: usize = 12_000;
+/// A record with its line feed.
+pub const LINE: usize = 81;
+/// The last record that a file may have.
+pub const LAST_RECORD: usize = 99_999;
+/// The codes of the fourteen kinds, in the order of the counts.
+pub const KINDS: [&str; 14] = [
+    "AA", "10", "11", "12", "25", "26", "27", "70", "72", "80", "86", "91", "92", "93",
+];
+/// A missing height among the values of a record.
+pub const MISSING: i64 = i64::MIN;
+
+/// Whether the calls go to the stand-in and not to the proved library.
+pub const IS_STANDIN: bool = cfg!(feature = "standin");
+
+extern "C" {
+    fn shelf_check(
+        file: *const u8,
+        len: usize,
+        table: *mut u32,
+        words: usize,
+        answer: *mut u32,
+        answers: usize,
+    );
+    fn shelf_rewrite(
+        file: *const u8,
+        len: usize,
+        table: *mut u32,
+        words: usize,
+        out: *mut u8,
+        room: usize,
+        answer: *mut u32,
+        answers: usize,
+    );
+    fn shelf_read(file: *const u8, len: usize, record: u32, answer: *mut i64, answers: usize);
+    fn shelf_field(
+        file: *const u8,
+        len: usize,
+        record: u32,
+        column: u32,
+        answer: *mut u64,
+        answers: usize,
+    );
+    fn shelf_write(
+        out: *mut u8,
+        room: usize,
+        values: *const i64,
+        count: usize,
+        first: *const u8,
+        first_len: usize,
+        second: *const u8,
+        second_len: usize,
+        third: *const u8,
+        third_len: usize,
+        answer: *mut u32,
+        answers: usize,
+    );
+}
+
+/// The library's calls in word form. Each is safe because the header's calls
+/// take every length, and slices are what it asks for: not null, aligned,
+/// and none that is written overlaps another.
+pub struct Library;
+
+impl Calls for Library {
+    fn check(&self, file: &[u8], table: &mut [u32], answer: &mut [u32]) {
+        unsafe {
+            shelf_check(
+                file.as_ptr(),
+                file.len(),
+                table.as_mut_ptr(),
+                table.len(),
+                answer.as_mut_ptr(),
+                answer.len(),
+            )
+        }
+    }
+
+    fn rewrite(&self, file: &[u8], table: &mut [u32], out: &mut [u8], answer: &mut [u32]) {
+        unsafe {
+            shelf_rewrite(
+                file.as_ptr(),
+                file.len(),
+                table.as_mut_ptr(),
+                table.len(),
+                out.as_mut_ptr(),
+                out.len(),
+                answer.as_mut_ptr(),
+                answer.len(),
+            )
+        }
+    }
+
+    fn read(&self, file: &[u8], record: u32, answer: &mut [i64]) {
+        unsafe {
+            shelf_read(
+                file.as_ptr(),
+                file.len(),
+                record,
+                answer.as_mut_ptr(),
+                answer.len(),
+            )
+        }
+    }
+
+    fn field(&self, file: &[u8], record: u32, column: u32, answer: &mut [u64]) {
+        unsafe {
+            shelf_field(
+                file.as_ptr(),
+                file.len(),
+                record,
+                column,
+                answer.as_mut_ptr(),
+                answer.len(),
+            )
+        }
+    }
+
+    fn write(&self, out: &mut [u8], values: &[i64], texts: [&[u8]; 3], answer: &mut [u32]) {
+        let [first, second, third] = texts;
+        unsafe {
+            shelf_write(
+                out.as_mut_ptr(),
+                out.len(),
+                values.as_ptr(),
+                values.len(),
+                first.as_ptr(),
+                first.len(),
+                second.as_ptr(),
+                second.len(),
+                third.as_ptr(),
+                third.len(),
+                answer.as_mut_ptr(),
+                answer.len(),
+            )
+        }
+    }
+}
+
+/// Number, record and column; number 0 is acceptance.
+#[derive(Clone, Copy, Debug, PartialEq, Eq)]
+pub struct Fault {
+    pub number: u32,
+    pub record: u32,
+    pub column: u32,
+}
+
+/// What check and rewrite say of a file.
+#[derive(Clone, Copy, Debug, PartialEq, Eq)]
+pub struct Verdict {
+    pub fault: Fault,
+    pub counts: [u32; 14],
+}
+
+impl Verdict {
+    pub fn is_accepted(&self) -> bool {
+        self.fault.number == 0
+    }
+
+    fn of(answer: [u32; CHECK_WORDS]) -> Verdict {
+        let [number, record, column, counts @ ..] = answer;
+        Verdict {
+            fault: Fault {
+                number,
+                record,
+                column,
+            },
+            counts,
+        }
+    }
+}
+
+/// A record's values as read gives them.
+#[derive(Clone, Debug, PartialEq, Eq)]
+pub struct Record {
+    pub kind: usize,
+    pub sequence: Option<i64>,
+    /// The values' words; those that the kind does not use are 0.
+    pub values: [i64; READ_WORDS - FIRST_VALUE_WORD],
+}
+
+/// Judges a file.
+pub fn check(file: &[u8]) -> Verdict {
+    let mut table = vec![0; TABLE_WORDS];
+    let mut answer = [0; CHECK_WORDS];
+    Library.check(file, &mut table, &mut answer);
+    Verdict::of(answer)
+}
+
+/// Judges a file and gives it in house style if it is accepted.
+pub fn rewrite(file: &[u8]) -> (Verdict, Vec<u8>) {
+    let mut table = vec![0; TABLE_WORDS];
+    let mut answer = [0; CHECK_WORDS];
+    let mut out = vec![0; file.len()];
+    Library.rewrite(file, &mut table, &mut out, &mut answer);
+    (Verdict::of(answer), out)
+}
+
+/// Reads one record by its number, judged by itself.
+pub fn read(file: &[u8], record: u32) -> Result<Record, Fault> {
+    let mut answer = [0; READ_WORDS];
+    Library.read(file, record, &mut answer);
+    if answer[0] != 0 {
+        return Err(Fault {
+            number: answer[0] as u32,
+            record: answer[1] as u32,
+            column: answer[2] as u32,
+        });
+    }
+    let mut values = [0; READ_WORDS - FIRST_VALUE_WORD];
+    values.copy_from_slice(&answer[FIRST_VALUE_WORD..]);
+    Ok(Record {
+        kind: answer[KIND_WORD] as usize,
+        sequence: Some(answer[SEQUENCE_WORD]).filter(|&number| number != NO_SEQUENCE),
+        values,
+    })
+}
+
+/// The columns of a record's field, empty where there is none.
+pub fn field(file: &[u8], record: u32, column: u32) -> &[u8] {
+    let mut answer = [0; FIELD_WORDS];
+    Library.field(file, record, column, &mut answer);
+    let [offset, length] = answer.map(|word| word as usize);
+    &file[offset..offset + length]
+}
+
+/// Writes one record into the first 81 bytes of `out`.
+pub fn write(out: &mut [u8], values: &[i64], texts: [&[u8]; 3]) -> Fault {
+    let mut answer = [0; WRITE_WORDS];
+    Library.write(out, values, texts, &mut answer);
+    let [number, record, column] = answer;
+    Fault {
+        number,
+        record,
+        column,
+    }
+}

@@ -1,0 +1,83 @@
+//! The plain shelf in the word form of the library's header.
+
+use super::{check, field, read, rewrite, write, Checked, Fault, LINE};
+use crate::calls::{
+    Calls, CHECK_WORDS, FIELD_WORDS, FIRST_GIVEN_VALUE, FIRST_VALUE_WORD, KIND_WORD, NO_KIND,
+    NO_SEQUENCE, READ_WORDS, SEQUENCE_WORD, WRITE_WORDS,
+};
+
+/// The plain implementation behind the interface it shares with the library.
+pub struct Plain;
+
+impl Calls for Plain {
+    fn check(&self, file: &[u8], table: &mut [u32], answer: &mut [u32]) {
+        if let Some(answer) = answer.get_mut(..CHECK_WORDS) {
+            put_checked(answer, &check(file, table));
+        }
+    }
+
+    fn rewrite(&self, file: &[u8], table: &mut [u32], out: &mut [u8], answer: &mut [u32]) {
+        if let Some(answer) = answer.get_mut(..CHECK_WORDS) {
+            put_checked(answer, &rewrite(file, table, out));
+        }
+    }
+
+    fn read(&self, file: &[u8], record: u32, answer: &mut [i64]) {
+        let Some(answer) = answer.get_mut(..READ_WORDS) else {
+            return;
+        };
+        answer.fill(0);
+        match read(file, u64::from(record)) {
+            Ok(reading) => {
+                answer[KIND_WORD] = reading.kind as i64;
+                answer[SEQUENCE_WORD] = reading.sequence.map_or(NO_SEQUENCE, i64::from);
+                answer[FIRST_VALUE_WORD..][..reading.values.len()].copy_from_slice(&reading.values);
+            }
+            Err(fault) => {
+                for (word, part) in answer.iter_mut().zip(fault_words(&fault)) {
+                    *word = i64::from(part);
+                }
+                answer[KIND_WORD] = NO_KIND;
+            }
+        }
+    }
+
+    fn field(&self, file: &[u8], record: u32, column: u32, answer: &mut [u64]) {
+        if let Some(answer) = answer.get_mut(..FIELD_WORDS) {
+            let (offset, length) = field(file, u64::from(record), u64::from(column));
+            answer.copy_from_slice(&[offset as u64, length as u64]);
+        }
+    }
+
+    fn write(&self, out: &mut [u8], values: &[i64], texts: [&[u8]; 3], answer: &mut [u32]) {
+        let Some(answer) = answer.get_mut(..WRITE_WORDS) else {
+            return;
+        };
+        let fault = match values {
+            [kind, sequence, ..] => {
+                let sequence = Some(*sequence).filter(|&number| number != NO_SEQUENCE);
+                write(out, *kind, sequence, &values[FIRST_GIVEN_VALUE..], texts)
+            }
+            _ if out.len() < LINE => Fault::TOO_SHORT,
+            // The leftmost column without a word is the sequence number's.
+            _ => Fault {
+                number: 9,
+                record: 0,
+                column: 1,
+            },
+        };
+        answer.copy_from_slice(&fault_words(&fault));
+    }
+}
+
+/// No record number here is above 32 bits: read is asked for one of 32 bits,
+/// and the others stop at 100,000.
+fn fault_words(fault: &Fault) -> [u32; 3] {
+    [fault.number, fault.record as u32, fault.column as u32]
+}
+
+fn put_checked(answer: &mut [u32], checked: &Checked) {
+    let (fault, counts) = answer.split_at_mut(3);
+    fault.copy_from_slice(&fault_words(&checked.fault));
+    counts.copy_from_slice(&checked.counts);
+}

@@ -1,0 +1,170 @@
+//! A small file with all fourteen kinds, made by hand.
+
+/// A record of 81 bytes: texts by first column, blank elsewhere.
+pub fn line(parts: &[(usize, &str)]) -> Vec<u8> {
+    let mut line = vec![b' '; 80];
+    for (first, text) in parts {
+        line[first - 1..first - 1 + text.len()].copy_from_slice(text.as_bytes());
+    }
+    line.push(b'\n');
+    line
+}
+
+pub fn job() -> Vec<u8> {
+    line(&[(1, "000010"), (7, "*A1*"), (11, "HZTLOBS NGS   {a}~")])
+}
+
+pub fn title() -> Vec<u8> {
+    line(&[(7, "*10*"), (11, "NORTH SHORE \\ PART 2, (A='B') *-.+/")])
+}
+
+pub fn title_more() -> Vec<u8> {
+    line(&[(7, "*11*"), (11, "AND ISLANDS")])
+}
+
+pub fn project() -> Vec<u8> {
+    line(&[
+        (1, "    40"),
+        (7, "*12*"),
+        (11, "201911"),
+        (17, "202002"),
+        (23, "A C"),
+        (26, "COOPER A,'=)(-.+/*"),
+        (44, "   "),
+        (47, "9 LIVES"),
+        (76, "4"),
+        (77, "MI"),
+    ])
+}
+
+pub fn occupation(station: &str) -> Vec<u8> {
+    line(&[
+        (7, "*25*"),
+        (11, station),
+        (15, "T3669Aab~ "),
+        (25, "J B"),
+        (28, "  7"),
+        (33, "003"),
+    ])
+}
+
+pub fn comment() -> Vec<u8> {
+    line(&[(7, "*26*"), (11, "Rained; see {log} ~")])
+}
+
+pub fn measurement(station: &str) -> Vec<u8> {
+    line(&[
+        (7, "*27*"),
+        (11, station),
+        (15, "191105"),
+        (21, " 930"),
+        (56, " 1543"),
+    ])
+}
+
+pub fn instrument(number: &str) -> Vec<u8> {
+    line(&[
+        (7, "*70*"),
+        (11, number),
+        (14, " 45"),
+        (23, "Maker & Sons"),
+        (63, "Model 3"),
+        (71, "sn-00012"),
+    ])
+}
+
+pub fn antenna(number: &str) -> Vec<u8> {
+    line(&[
+        (7, "*72*"),
+        (11, number),
+        (17, "TRM55971.00"),
+        (33, "NONE"),
+        (45, "UNK"),
+    ])
+}
+
+pub fn point(station: &str) -> Vec<u8> {
+    line(&[
+        (7, "*80*"),
+        (11, station),
+        (15, "Lighthouse 2"),
+        (45, "38531512345"),
+        (56, "N"),
+        (57, "077020100000"),
+        (69, "W"),
+        (77, "MI"),
+    ])
+}
+
+pub fn heights(station: &str) -> Vec<u8> {
+    line(&[
+        (7, "*86*"),
+        (11, station),
+        (17, "  12345"),
+        (24, "A"),
+        (25, "12"),
+        (27, "Y"),
+        (28, "88"),
+        (30, "NGS"),
+        (36, "-033250"),
+        (43, "6"),
+        (46, "  -1234"),
+        (53, "B"),
+        (56, "A"),
+        (57, "set by hand"),
+    ])
+}
+
+/// A *86* with no heights, and so without their codes.
+pub fn no_heights(station: &str) -> Vec<u8> {
+    line(&[(7, "*86*"), (11, station)])
+}
+
+pub fn accuracy(code: &str) -> Vec<u8> {
+    line(&[(7, code), (11, "kept as {printable} bytes~")])
+}
+
+/// Records 1 to 24.
+pub fn lines() -> Vec<Vec<u8>> {
+    vec![
+        job(),              // 1
+        title(),            // 2
+        title_more(),       // 3
+        project(),          // 4
+        occupation("  12"), // 5
+        comment(),          // 6
+        measurement("0012"),
+        measurement(" 012"),
+        measurement("  12"), // 9
+        occupation("0345"),  // 10
+        measurement("0345"),
+        measurement(" 345"), // 12
+        instrument("007"),   // 13
+        instrument("  8"),   // 14
+        antenna("  3"),      // 15
+        antenna("444"),      // 16
+        point("0345"),       // 17
+        heights(" 345"),     // 18
+        point("0012"),       // 19
+        no_heights("  12"),  // 20
+        accuracy("*91*"),    // 21
+        accuracy("*92*"),    // 22
+        accuracy("*93*"),    // 23
+        job(),               // 24
+    ]
+}
+
+pub fn file() -> Vec<u8> {
+    lines().concat()
+}
+
+/// Counts of the sample, in the order AA 10 11 12 25 26 27 70 72 80 86 91 92 93.
+pub const COUNTS: [u32; 14] = [2, 1, 1, 1, 2, 1, 5, 2, 2, 2, 2, 1, 1, 1];
+
+/// The file with some columns of a record replaced.
+pub fn with(file: &[u8], record: usize, first: usize, text: &str) -> Vec<u8> {
+    let mut changed = file.to_vec();
+    let start = 81 * (record - 1) + first - 1;
+    changed[start..start + text.len()].copy_from_slice(text.as_bytes());
+    changed
+}

@@ -1,0 +1,111 @@
+//! The five symbols of `include/shelf.h` over the plain implementation, so
+//! that everything above the library can be built before its archive is
+//! there. It proves nothing and goes away with the feature `standin`.
+
+use crate::calls::Calls;
+use crate::plain::Plain;
+use std::slice::{from_raw_parts, from_raw_parts_mut};
+
+/// # Safety
+/// As `include/shelf.h` says.
+#[no_mangle]
+unsafe extern "C" fn shelf_check(
+    file: *const u8,
+    len: usize,
+    table: *mut u32,
+    words: usize,
+    answer: *mut u32,
+    answers: usize,
+) {
+    Plain.check(
+        from_raw_parts(file, len),
+        from_raw_parts_mut(table, words),
+        from_raw_parts_mut(answer, answers),
+    );
+}
+
+/// # Safety
+/// As `include/shelf.h` says.
+#[no_mangle]
+unsafe extern "C" fn shelf_rewrite(
+    file: *const u8,
+    len: usize,
+    table: *mut u32,
+    words: usize,
+    out: *mut u8,
+    room: usize,
+    answer: *mut u32,
+    answers: usize,
+) {
+    Plain.rewrite(
+        from_raw_parts(file, len),
+        from_raw_parts_mut(table, words),
+        from_raw_parts_mut(out, room),
+        from_raw_parts_mut(answer, answers),
+    );
+}
+
+/// # Safety
+/// As `include/shelf.h` says.
+#[no_mangle]
+unsafe extern "C" fn shelf_read(
+    file: *const u8,
+    len: usize,
+    record: u32,
+    answer: *mut i64,
+    answers: usize,
+) {
+    Plain.read(
+        from_raw_parts(file, len),
+        record,
+        from_raw_parts_mut(answer, answers),
+    );
+}
+
+/// # Safety
+/// As `include/shelf.h` says.
+#[no_mangle]
+unsafe extern "C" fn shelf_field(
+    file: *const u8,
+    len: usize,
+    record: u32,
+    column: u32,
+    answer: *mut u64,
+    answers: usize,
+) {
+    Plain.field(
+        from_raw_parts(file, len),
+        record,
+        column,
+        from_raw_parts_mut(answer, answers),
+    );
+}
+
+/// # Safety
+/// As `include/shelf.h` says.
+#[no_mangle]
+unsafe extern "C" fn shelf_write(
+    out: *mut u8,
+    room: usize,
+    values: *const i64,
+    count: usize,
+    first: *const u8,
+    first_len: usize,
+    second: *const u8,
+    second_len: usize,
+    third: *const u8,
+    third_len: usize,
+    answer: *mut u32,
+    answers: usize,
+) {
+    Plain.write(
+        from_raw_parts_mut(out, room),
+        from_raw_parts(values, count),
+        [
+            from_raw_parts(first, first_len),
+            from_raw_parts(second, second_len),
+            from_raw_parts(third, third_len),
+        ],
+        from_raw_parts_mut(answer, answers),
+    );
+}
