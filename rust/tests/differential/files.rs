@@ -1,0 +1,148 @@
+//! Files to try, by family; check, rewrite and read are tried on each.
+
+use shelf::generate::{self, Dice};
+use shelf::plain::layout::{kind_of, FIELDS};
+use shelf::plain::LINE;
+use shelf::sample;
+
+/// Each of the sample's bytes, which has all fourteen kinds, as each of the
+/// 256. Gives the file and the record that was changed.
+pub fn every_byte(try_file: &mut dyn FnMut(&[u8], u32)) {
+    let mut file = sample::file();
+    for at in 0..file.len() {
+        let held = file[at];
+        for byte in 0..=255 {
+            file[at] = byte;
+            try_file(&file, record_of(at));
+        }
+        file[at] = held;
+    }
+}
+
+/// Each field of each record of the sample, columns 1-6 and 7-10 too, filled
+/// with what numbers, heights, angles and codes go wrong on.
+pub fn filled(try_file: &mut dyn FnMut(&[u8], u32)) {
+    let good = sample::file();
+    let mut dice = Dice::new(11);
+    for (start, kind) in records(&good) {
+        let rows = FIELDS[kind].iter().map(|field| (field.first, field.width));
+        for (first, width) in rows.chain([(1, 6), (7, 4)]) {
+            let from = start + first - 1;
+            let mut file = good.clone();
+            for _ in 0..400 {
+                generate::telling(&mut dice, &mut file[from..from + width]);
+                try_file(&file, record_of(start));
+            }
+        }
+    }
+}
+
+/// Two bytes of one record changed, printable ones mostly: which fault is
+/// named first.
+pub fn two_bytes(try_file: &mut dyn FnMut(&[u8], u32)) {
+    let mut dice = Dice::new(12);
+    let mut file = sample::file();
+    for _ in 0..160_000 {
+        let record = dice.below(file.len() / LINE);
+        let places = [dice.below(LINE), dice.below(LINE)].map(|column| LINE * record + column);
+        let held = places.map(|place| file[place]);
+        for place in places {
+            file[place] = match dice.below(4) {
+                0 => dice.below(256) as u8,
+                1 => dice.pick(b" -0169ANSEWYZ\n\r"),
+                _ => dice.between(0x20, 0x7e) as u8,
+            };
+        }
+        try_file(&file, record as u32 + 1);
+        // The second first, in case they are one place.
+        file[places[1]] = held[1];
+        file[places[0]] = held[0];
+    }
+}
+
+/// Made-up files, accepted and damaged in every way.
+pub fn damaged(try_file: &mut dyn FnMut(&[u8])) {
+    for seed in 0..41_000 {
+        // Those at the limit have a test of their own.
+        if seed % 64 != 63 {
+            try_file(&generate::case(seed));
+        }
+    }
+}
+
+/// Files that end anywhere, with and without something behind, and files
+/// with carriage returns.
+pub fn cut(try_file: &mut dyn FnMut(&[u8])) {
+    let files = [
+        sample::file(),
+        generate::accepted(21, 11),
+        generate::accepted(22, 40),
+    ];
+    for file in &files {
+        for end in 0..=file.len() {
+            try_file(&file[..end]);
+            for byte in *b"\n \x7f" {
+                try_file(&[&file[..end], &[byte]].concat());
+            }
+        }
+        for end in (LINE..=file.len()).step_by(LINE) {
+            let (before, behind) = file.split_at(end - 1);
+            try_file(&[before, b"\r", behind].concat());
+            try_file(&[before, b"\r\n\n", &behind[1..]].concat());
+            try_file(&[before, &behind[1..]].concat());
+        }
+        let returns = file.split_inclusive(|&byte| byte == b'\n');
+        let returns: Vec<u8> = returns
+            .flat_map(|line| [&line[..LINE - 1], b"\r\n"].concat())
+            .collect();
+        for end in 0..=returns.len() {
+            try_file(&returns[..end]);
+        }
+    }
+}
+
+/// Lines put in, put in place of another, taken out and exchanged, at every
+/// place: what may follow what.
+pub fn order(try_file: &mut dyn FnMut(&[u8])) {
+    let mut files = vec![sample::file()];
+    files.extend((0..16).map(|seed| generate::accepted(seed, 11 + seed as usize)));
+    let others = [
+        sample::line(&[(7, "*B2*")]),
+        sample::line(&[(7, "*13*")]),
+        sample::instrument("009"),
+        sample::antenna("002"),
+        sample::point("0013"),
+        sample::heights("0013"),
+        sample::measurement("0013"),
+    ];
+    let candidates: Vec<Vec<u8>> = sample::lines().into_iter().chain(others).collect();
+    for file in &files {
+        for at in (0..=file.len()).step_by(LINE) {
+            let (before, behind) = file.split_at(at);
+            let after = behind.get(LINE..).unwrap_or(b"");
+            try_file(&[before, after].concat());
+            for line in &candidates {
+                try_file(&[before, line, behind].concat());
+                try_file(&[before, line, after].concat());
+            }
+            for other in (at + LINE..file.len()).step_by(LINE) {
+                let mut exchanged = file.clone();
+                for column in 0..LINE {
+                    exchanged.swap(at + column, other + column);
+                }
+                try_file(&exchanged);
+            }
+        }
+    }
+}
+
+/// The starts and kinds of a good file's records.
+fn records(file: &[u8]) -> impl Iterator<Item = (usize, usize)> + '_ {
+    let starts = (0..file.len()).step_by(LINE);
+    starts.filter_map(|start| kind_of(&file[start + 6..start + 10]).map(|kind| (start, kind)))
+}
+
+/// The number of the record that has this byte.
+fn record_of(at: usize) -> u32 {
+    (at / LINE + 1) as u32
+}

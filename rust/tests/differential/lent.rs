@@ -1,0 +1,119 @@
+//! Tables, outputs and answers of every length that matters.
+
+use crate::pair::Pair;
+use shelf::calls::{CHECK_WORDS, FIELD_WORDS, READ_WORDS, WRITE_WORDS};
+use shelf::generate;
+use shelf::plain::{LINE, TABLE_WORDS};
+use shelf::sample;
+
+const TABLES: [usize; 6] = [0, 1, 11_998, TABLE_WORDS - 1, TABLE_WORDS, TABLE_WORDS + 77];
+
+/// Accepted ones and one of each fault that a file can have.
+fn files() -> Vec<Vec<u8>> {
+    let good = sample::file();
+    let mut repeated = sample::lines();
+    repeated.insert(20, sample::point("0345"));
+    repeated.insert(21, sample::no_heights("0345"));
+    let mut files = vec![
+        good.clone(),
+        generate::accepted(41, 11),
+        Vec::new(),
+        vec![b' '],
+        good[..good.len() - 1].to_vec(),
+        good[..good.len() - LINE].to_vec(),
+        sample::with(&good, 3, 20, "\t"),
+        sample::with(&good, 3, 81, "\r"),
+        sample::with(&good, 3, 7, "*13*"),
+        sample::with(&good, 3, 7, "*86*"),
+        sample::with(&good, 5, 28, "  x"),
+        sample::with(&good, 7, 11, "0345"),
+        repeated.concat(),
+        sample::with(&good, 5, 33, "  9"),
+    ];
+    // Fault 1 goes before all that the bytes say.
+    files.push(vec![0xff; 3 * LINE]);
+    files
+}
+
+#[test]
+fn check() {
+    let mut pair = Pair::new();
+    let mut faults = [0; 14];
+    for file in files() {
+        for words in TABLES {
+            for answers in 0..=CHECK_WORDS + 4 {
+                let [number, ..] = pair.check_lent(&file, words, answers);
+                if answers >= CHECK_WORDS {
+                    faults[number as usize] += 1;
+                }
+            }
+        }
+    }
+    pair.tried(1_500);
+    for number in [0, 1, 3, 4, 5, 6, 7, 8, 9, 10, 11, 12] {
+        assert!(faults[number] > 0, "fault {number}");
+    }
+}
+
+#[test]
+fn rewrite() {
+    let mut pair = Pair::new();
+    for file in files() {
+        let length = file.len();
+        let rooms = [
+            0,
+            LINE.min(length),
+            length.saturating_sub(LINE),
+            length.saturating_sub(1),
+            length,
+            length + 1,
+            length + LINE,
+        ];
+        for words in TABLES {
+            for room in rooms {
+                for answers in [0, 1, 3, CHECK_WORDS - 1, CHECK_WORDS, CHECK_WORDS + 4] {
+                    pair.rewrite_lent(&file, words, room, answers);
+                }
+            }
+        }
+    }
+    pair.tried(3_000);
+}
+
+#[test]
+fn read_and_field() {
+    let mut pair = Pair::new();
+    for file in files() {
+        for record in [0, 1, 2, 3, 5, 7, 20, 24, 25, 100_000] {
+            for answers in 0..=READ_WORDS + 4 {
+                pair.read_lent(&file, record, answers);
+            }
+            for answers in 0..=FIELD_WORDS + 4 {
+                for column in [0, 10, 11, 15, 80] {
+                    pair.field(&file, record, column, answers);
+                }
+            }
+        }
+    }
+    pair.tried(8_000);
+}
+
+#[test]
+fn write() {
+    let mut pair = Pair::new();
+    let blanks = [b' '; 70];
+    // A comment that is written, a bad sequence number, kind and text.
+    for (kind, sequence, width) in [(5, 7, 70), (5, 0, 70), (14, 7, 70), (5, 7, 69)] {
+        for room in 0..=LINE + 4 {
+            for answers in 0..=WRITE_WORDS + 4 {
+                pair.write_lent(
+                    &[kind, sequence],
+                    [&blanks[..width], b"", b""],
+                    room,
+                    answers,
+                );
+            }
+        }
+    }
+    pair.tried(2_000);
+}

@@ -1,0 +1,37 @@
+//! The library and the plain implementation, called alike and compared: every
+//! answer, every word of a table, every byte of an output, and what stands
+//! behind each of them. `cargo test --release` runs it on all cores.
+
+mod check;
+mod field;
+mod files;
+mod lent;
+mod limits;
+mod pair;
+mod read;
+mod rewrite;
+mod write;
+
+/// The fewest cases each test has to try; a case is one call, compared.
+mod least {
+    pub const EVERY_BYTE: u64 = 24 * 81 * 256;
+    pub const FILLED: u64 = 50_000;
+    pub const TWO_BYTES: u64 = 150_000;
+    pub const DAMAGED: u64 = 40_000;
+    pub const CUT: u64 = 10_000;
+    pub const ORDER: u64 = 15_000;
+    pub const READ_RECORDS: u64 = 300_000;
+    pub const FIELDS: u64 = 400_000;
+    pub const WRITE_WORDS: u64 = 100_000;
+    pub const WRITE_TEXTS: u64 = 220_000;
+    pub const WRITE_MIXED: u64 = 300_000;
+
+    /// Check, rewrite and read each try the first six families.
+    const ALL: u64 = 3 * (EVERY_BYTE + FILLED + TWO_BYTES + DAMAGED + CUT + ORDER)
+        + READ_RECORDS
+        + FIELDS
+        + WRITE_WORDS
+        + WRITE_TEXTS
+        + WRITE_MIXED;
+    const _: () = assert!(ALL > 3_000_000);
+}

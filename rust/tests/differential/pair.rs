@@ -1,0 +1,228 @@
+//! Both implementations, given the same and compared.
+
+use shelf::calls::{Calls, CHECK_WORDS, FIELD_WORDS, READ_WORDS, WRITE_WORDS};
+use shelf::library::Library;
+use shelf::plain::layout::{kind_of, KINDS};
+use shelf::plain::{Plain, LINE, TABLE_WORDS};
+use std::fmt::Debug;
+use std::{env, fs, process, thread};
+
+/// What is expected comes from the first, what is found from the second.
+const BOTH: [&dyn Calls; 2] = [&Plain, &Library];
+
+/// Behind what is lent stand so many words or bytes that are not, and that
+/// no call may touch.
+const BEYOND: usize = 5;
+
+/// The row of [`Pair::places`] for records that have no known code.
+const NO_KIND: usize = KINDS.len();
+
+pub struct Pair {
+    tables: [Vec<u32>; 2],
+    outs: [Vec<u8>; 2],
+    /// How many calls were compared.
+    cases: u64,
+    /// How often each fault came, by number, kind of its record and column.
+    places: Vec<[[u32; LINE + 1]; NO_KIND + 1]>,
+}
+
+impl Pair {
+    pub fn new() -> Pair {
+        Pair {
+            tables: [Vec::new(), Vec::new()],
+            outs: [Vec::new(), Vec::new()],
+            cases: 0,
+            places: vec![[[0; LINE + 1]; NO_KIND + 1]; 14],
+        }
+    }
+
+    /// Check with all that it needs and a word more.
+    pub fn check(&mut self, file: &[u8]) {
+        let fault = self.check_lent(file, TABLE_WORDS + 1, CHECK_WORDS + 1);
+        self.place(file, fault);
+    }
+
+    /// Check with so many words of a table and of an answer. Gives the first
+    /// words of the answer: the fault, if there was room for it.
+    pub fn check_lent(&mut self, file: &[u8], words: usize, answers: usize) -> [u32; 3] {
+        let mark = self.mark();
+        let mut given = [[mark; CHECK_WORDS + BEYOND]; 2];
+        for side in 0..2 {
+            let table = renewed(&mut self.tables[side], words, mark);
+            BOTH[side].check(file, table, &mut given[side][..answers]);
+        }
+        let about = || format!("check, table of {words}, answer of {answers} words");
+        same(file, &about, "answer", &given);
+        same(file, &about, "table", &self.tables);
+        [given[1][0], given[1][1], given[1][2]]
+    }
+
+    /// Rewrite with all that it needs and a word and a byte more.
+    pub fn rewrite(&mut self, file: &[u8]) {
+        let room = file.len() + 1;
+        let fault = self.rewrite_lent(file, TABLE_WORDS + 1, room, CHECK_WORDS + 1);
+        self.place(file, fault);
+    }
+
+    /// Rewrite with so many words of a table, bytes of output and words of an
+    /// answer. Gives the fault, if there was room for it.
+    pub fn rewrite_lent(
+        &mut self,
+        file: &[u8],
+        words: usize,
+        room: usize,
+        answers: usize,
+    ) -> [u32; 3] {
+        let mark = self.mark();
+        let mut given = [[mark; CHECK_WORDS + BEYOND]; 2];
+        for side in 0..2 {
+            let table = renewed(&mut self.tables[side], words, mark);
+            let out = renewed(&mut self.outs[side], room, mark as u8);
+            BOTH[side].rewrite(file, table, out, &mut given[side][..answers]);
+        }
+        let about =
+            || format!("rewrite, table of {words}, output of {room}, answer of {answers} words");
+        same(file, &about, "answer", &given);
+        same(file, &about, "table", &self.tables);
+        same(file, &about, "output", &self.outs);
+        [given[1][0], given[1][1], given[1][2]]
+    }
+
+    /// Read with all that it needs and a word more.
+    pub fn read(&mut self, file: &[u8], record: u32) {
+        let fault = self.read_lent(file, record, READ_WORDS + 1);
+        // Its own record is the one asked for, and 13 has none.
+        self.place(file, fault);
+    }
+
+    /// Read with so many words of an answer. Gives the fault, if there was
+    /// room for it.
+    pub fn read_lent(&mut self, file: &[u8], record: u32, answers: usize) -> [u32; 3] {
+        let mark = i64::from(self.mark()) << 20;
+        let mut given = [[mark; READ_WORDS + BEYOND]; 2];
+        for side in 0..2 {
+            BOTH[side].read(file, record, &mut given[side][..answers]);
+        }
+        let about = || format!("read of record {record}, answer of {answers} words");
+        same(file, &about, "answer", &given);
+        [given[1][0] as u32, given[1][1] as u32, given[1][2] as u32]
+    }
+
+    /// Field with an answer of so many words. Gives offset and length, if
+    /// there was room for them.
+    pub fn field(&mut self, file: &[u8], record: u32, column: u32, answers: usize) -> [u64; 2] {
+        let mark = u64::from(self.mark()) << 20;
+        let mut given = [[mark; FIELD_WORDS + BEYOND]; 2];
+        for side in 0..2 {
+            BOTH[side].field(file, record, column, &mut given[side][..answers]);
+        }
+        let about =
+            || format!("field of record {record}, column {column}, answer of {answers} words");
+        same(file, &about, "answer", &given);
+        [given[1][0], given[1][1]]
+    }
+
+    /// Write with so many bytes of output and words of an answer.
+    pub fn write_lent(
+        &mut self,
+        values: &[i64],
+        texts: [&[u8]; 3],
+        room: usize,
+        answers: usize,
+    ) -> [u32; 3] {
+        let mark = self.mark();
+        let mut given = [[mark; WRITE_WORDS + BEYOND]; 2];
+        for side in 0..2 {
+            let out = renewed(&mut self.outs[side], room, mark as u8);
+            BOTH[side].write(out, values, texts, &mut given[side][..answers]);
+        }
+        let about = || {
+            let texts = texts.map(|text| text.escape_ascii().to_string());
+            format!("write of {values:?} {texts:?}, output of {room}, answer of {answers} words")
+        };
+        same(b"", &about, "answer", &given);
+        same(b"", &about, "output", &self.outs);
+        [given[1][0], given[1][1], given[1][2]]
+    }
+
+    /// Write with all that it needs and a byte and a word more.
+    pub fn write(&mut self, values: &[i64], texts: [&[u8]; 3]) -> u32 {
+        let [number, _, column] = self.write_lent(values, texts, LINE + 1, WRITE_WORDS + 1);
+        let kind = values.first().map_or(NO_KIND, |&kind| {
+            usize::try_from(kind).map_or(NO_KIND, |kind| kind.min(NO_KIND))
+        });
+        self.places[number as usize][kind][column as usize] += 1;
+        number
+    }
+
+    /// A number for each case, to fill what is lent with: what a call leaves
+    /// alone then differs from what an earlier case left there.
+    fn mark(&mut self) -> u32 {
+        self.cases += 1;
+        0x8000_0080 | self.cases as u32
+    }
+
+    fn place(&mut self, file: &[u8], [number, record, column]: [u32; 3]) {
+        let start = LINE * (record.max(1) as usize - 1);
+        let kind = file
+            .get(start + 6..start + 10)
+            .and_then(kind_of)
+            .unwrap_or(NO_KIND);
+        self.places[number as usize][kind][column as usize] += 1;
+    }
+
+    /// Says how many cases a test has tried, which `--nocapture` shows, and
+    /// that they are no fewer than meant.
+    pub fn tried(&self, least: u64) {
+        let test = thread::current().name().unwrap_or("").to_string();
+        println!("{test}: {} cases", self.cases);
+        assert!(self.cases >= least, "{} cases of {least}", self.cases);
+    }
+
+    /// How often this fault came at all.
+    pub fn faults(&self, number: usize) -> u32 {
+        self.places[number].iter().flatten().sum()
+    }
+
+    /// How often this fault came for a kind at a column.
+    pub fn faults_at(&self, number: usize, kind: usize, column: usize) -> u32 {
+        self.places[number][kind][column]
+    }
+}
+
+/// Fills a part with a mark and gives it but for what is not lent.
+fn renewed<T: Copy>(part: &mut Vec<T>, lent: usize, mark: T) -> &mut [T] {
+    part.clear();
+    part.resize(lent + BEYOND, mark);
+    &mut part[..lent]
+}
+
+/// Stops at the first difference and keeps the file that brought it.
+fn same<T: PartialEq + Debug, P: AsRef<[T]>>(
+    file: &[u8],
+    about: &dyn Fn() -> String,
+    what: &str,
+    both: &[P; 2],
+) {
+    let [expected, found] = [both[0].as_ref(), both[1].as_ref()];
+    if expected == found {
+        return;
+    }
+    let place = expected
+        .iter()
+        .zip(found)
+        .position(|(one, other)| one != other);
+    let place = place.unwrap_or(expected.len().min(found.len()));
+    let name = env::temp_dir().join(format!("shelf-differs-{}.b", process::id()));
+    let kept = match fs::write(&name, file) {
+        Ok(()) => format!("kept as {}", name.display()),
+        Err(trouble) => format!("not kept: {trouble}"),
+    };
+    panic!(
+        "{}: {what} differs at {place}: plain {:?}, library {:?}; the file of {} bytes is {kept}",
+        about(),
+        expected.get(place),
+        found.get(place),
+        file.len(),
+    );
+}
