@@ -1,0 +1,116 @@
+//! An accepted file written in house style, read back and compared before it
+//! gets its name.
+
+use crate::drafts::Draft;
+use crate::fields::{self, Form};
+use crate::trouble::Trouble;
+use shelf::library::{self, Verdict, LINE};
+use std::path::Path;
+
+/// Writes the house style of an accepted file to `target`. What the disk
+/// gives back must mean what the file meant, or nothing is put in place.
+pub fn write(
+    source: &[u8],
+    verdict: &Verdict,
+    house: &[u8],
+    target: &Path,
+    replace: bool,
+) -> Result<(), Trouble> {
+    let mut draft = Draft::begin(target, replace)?;
+    draft.add(house)?;
+    draft.flush()?;
+    compare(source, verdict, &draft.read_back()?).map_err(|what| {
+        let what = format!("not put in place, since what was written {what}");
+        Trouble::about(target, what)
+    })?;
+    draft.place(replace)
+}
+
+/// Compares a file as written with what it was made from: counts, settled
+/// house style, and every record's meaning. Says what is wrong, if anything.
+pub fn compare(source: &[u8], verdict: &Verdict, written: &[u8]) -> Result<(), String> {
+    if written.len() != source.len() {
+        return Err(format!("has {} bytes, not {}", written.len(), source.len()));
+    }
+    let (again, settled) = library::rewrite(written);
+    if again != *verdict {
+        return Err("has other counts or is refused".to_string());
+    }
+    if settled != written {
+        return Err("is not in house style".to_string());
+    }
+    for number in 1..=(source.len() / LINE) as u32 {
+        if !same_meaning(source, written, number) {
+            return Err(format!("means something else in record {number}"));
+        }
+    }
+    Ok(())
+}
+
+/// The kind and every value from column 11 on; the sequence number has no
+/// meaning but must be the house's.
+fn same_meaning(source: &[u8], written: &[u8], number: u32) -> bool {
+    let (Ok(before), Ok(after)) = (
+        library::read(source, number),
+        library::read(written, number),
+    ) else {
+        return false;
+    };
+    let texts = fields::fields(before.kind)
+        .iter()
+        .filter(|field| matches!(field.form, Form::Text(_)));
+    let mut texts = texts.map(|field| field.first);
+    before.kind == after.kind
+        && before.values == after.values
+        && after.sequence == Some(10 * i64::from(number))
+        && texts.all(|column| {
+            library::field(source, number, column) == library::field(written, number, column)
+        })
+}
+
+#[cfg(test)]
+mod tests {
+    use super::compare;
+    use shelf::{library, sample};
+
+    /// The house style of the sample with some columns of a record replaced.
+    fn verdict_on(record: usize, first: usize, text: &str) -> Result<(), String> {
+        let source = sample::file();
+        let (verdict, house) = library::rewrite(&source);
+        compare(
+            &source,
+            &verdict,
+            &sample::with(&house, record, first, text),
+        )
+    }
+
+    #[test]
+    fn the_house_style_passes_and_every_change_of_it_is_seen() {
+        assert_eq!(verdict_on(1, 1, "000010"), Ok(()));
+        for (record, first, text) in [
+            // A sequence number, a padded number, a height, an angle, a
+            // code, a text, a job code.
+            (2, 1, "000021"),
+            (5, 11, "  12"),
+            (18, 17, "0012346"),
+            (17, 45, "38531512346"),
+            (4, 77, "MA"),
+            (6, 80, "x"),
+            (24, 11, "h"),
+            (2, 11, "n"),
+        ] {
+            assert!(verdict_on(record, first, text).is_err(), "{record} {first}");
+        }
+    }
+
+    #[test]
+    fn a_lost_record_is_seen() {
+        let source = sample::file();
+        let (verdict, house) = library::rewrite(&source);
+        let mut short = house.clone();
+        short.drain(81 * 20..81 * 21);
+        assert!(compare(&source, &verdict, &short).is_err());
+        assert!(compare(&source, &verdict, &source).is_err());
+        assert!(compare(&source, &verdict, &house).is_ok());
+    }
+}

@@ -1,0 +1,163 @@
+//! `shelf check`
+
+use crate::desk::Desk;
+use shelf::{generate, sample};
+use std::ffi::OsStr;
+use std::fs::File;
+use std::os::unix::ffi::OsStrExt;
+
+#[test]
+fn an_accepted_file_and_its_counts() {
+    let desk = Desk::new("accepted");
+    desk.put("good.b", &sample::file());
+    let ran = desk.run(&["check", "good.b"]).ended(0);
+    assert_eq!(
+        ran.out,
+        "good.b: accepted, 24 records: AA 2 10 1 11 1 12 1 25 2 26 1 27 5 70 2 72 2 80 2 86 2 \
+         91 1 92 1 93 1\n"
+    );
+    assert_eq!(ran.err, "");
+}
+
+#[test]
+fn a_refused_file_with_a_caret_under_the_column() {
+    let desk = Desk::new("caret");
+    desk.put("bad.b", &sample::with(&sample::file(), 5, 28, "7  "));
+    let ran = desk.run(&["check", "bad.b"]).ended(1);
+    let record = "      *25*  12T3669Aab~ J B7    003".to_string() + &" ".repeat(45);
+    let expected = format!(
+        "bad.b: refused, fault 9, record 5, column 28\n    \
+         a field not of its kind or range: instrument in columns 28-30 must be a number from 1 \
+         to 999, blanks only in front\n    {record}\n    {}^\n",
+        " ".repeat(27)
+    );
+    assert_eq!(ran.out, expected);
+}
+
+/// Each fault that a file can have: what is said, and the caret's column.
+#[test]
+fn every_fault_in_words() {
+    let desk = Desk::new("faults");
+    let good = sample::file();
+    let mut repeated = sample::lines();
+    repeated.insert(20, sample::point("0345"));
+    repeated.insert(21, sample::no_heights("0345"));
+    let long = generate::accepted(2, 100_000);
+    for (file, said, caret) in [
+        (
+            long,
+            "fault 2, record 100000, column 1\n    a record 100,000 has begun\n",
+            Some(1),
+        ),
+        (
+            good[..100].to_vec(),
+            "the last line is not whole: it has 19 bytes",
+            Some(20),
+        ),
+        (
+            sample::with(&good, 3, 40, "\t"),
+            "not printable: 09 hexadecimal (a tab)",
+            Some(40),
+        ),
+        (
+            sample::with(&good, 3, 81, "\r"),
+            "0D hexadecimal (a carriage return",
+            Some(81),
+        ),
+        (
+            sample::with(&good, 3, 81, "x"),
+            "the line is too long",
+            Some(81),
+        ),
+        (
+            sample::with(&good, 3, 7, "*13*"),
+            "columns 7-10 hold no known code\n",
+            Some(7),
+        ),
+        (
+            sample::with(&good, 3, 7, "*86*"),
+            "may not come here: *86* (heights) after *10* (project title)",
+            Some(7),
+        ),
+        (
+            good[81..].to_vec(),
+            "*10* (project title) at the beginning, where a job code comes",
+            Some(7),
+        ),
+        (
+            good[..81].to_vec(),
+            "the file ends where a record must follow\n",
+            None,
+        ),
+        (Vec::new(), "fault 8, record 1, column 1\n", None),
+        (
+            sample::with(&good, 9, 1, "00000x"),
+            "sequence number in columns 1-6 must be a number from 1 to 999999",
+            Some(1),
+        ),
+        (
+            sample::with(&good, 7, 11, "0345"),
+            "station in columns 11-14 must be the station of the *25* of its group",
+            Some(11),
+        ),
+        (
+            sample::with(&good, 18, 24, " "),
+            "code in column 24 must be blank exactly when its height is missing",
+            Some(24),
+        ),
+        (
+            repeated.concat(),
+            "an *80* repeats a station number: station 0345",
+            Some(11),
+        ),
+        (
+            sample::with(&good, 5, 33, "  9"),
+            "antenna in columns 33-35 is defined by no record of this file",
+            Some(33),
+        ),
+    ] {
+        desk.put("bad.b", &file);
+        let ran = desk.run(&["check", "bad.b"]).ended(1);
+        assert!(ran.out.contains(said), "{}", ran.out);
+        let last = ran.out.lines().last().unwrap();
+        let pointed = last.ends_with('^').then(|| last.len() - 4);
+        assert_eq!(pointed, caret, "{}", ran.out);
+    }
+}
+
+#[test]
+fn several_files_and_the_worst_of_their_verdicts() {
+    let desk = Desk::new("several");
+    desk.put("good.b", &sample::file());
+    desk.put("bad.b", b"");
+    desk.run(&["check", "good.b", "good.b"]).ended(0);
+    let ran = desk.run(&["check", "bad.b", "good.b"]).ended(1);
+    assert!(ran.out.contains("bad.b: refused") && ran.out.contains("good.b: accepted"));
+    // One that is not there hides no other.
+    let ran = desk.run(&["check", "none.b", "bad.b", "good.b"]).ended(2);
+    assert_eq!(ran.err, "shelf: none.b: there is no such file or folder\n");
+    assert!(ran.out.contains("bad.b: refused") && ran.out.contains("good.b: accepted"));
+}
+
+#[test]
+fn files_of_99_999_records_are_taken_and_longer_ones_fill_no_memory() {
+    let desk = Desk::new("long");
+    desk.put("full.b", &generate::accepted(1, 99_999));
+    let ran = desk.run(&["check", "full.b"]).ended(0);
+    assert!(ran.out.starts_with("full.b: accepted, 99999 records:"));
+    let huge = File::create(desk.path("huge.b")).unwrap();
+    huge.set_len(1 << 40).unwrap();
+    let ran = desk.run(&["check", "huge.b"]).ended(1);
+    assert!(ran.out.contains("fault 4, record 1, column 1"));
+}
+
+#[test]
+fn names_of_any_bytes_can_be_judged_and_are_shown_on_one_line() {
+    let desk = Desk::new("names");
+    let name = OsStr::from_bytes(b"a\tb\nc\\d\xff.b");
+    desk.put(name, b"");
+    let ran = desk.run(&[OsStr::new("check"), name]).ended(1);
+    assert!(ran
+        .out
+        .starts_with("a\\tb\\nc\\\\d\\xFF.b: refused, fault 8"));
+}

@@ -1,0 +1,252 @@
+//! `shelf move`: what is moved, what is left, what is refused to be done.
+
+use crate::desk::{house, Desk};
+use shelf::{generate, sample};
+use std::fs;
+use std::os::unix::fs::symlink;
+use std::process::Command;
+
+const MOVE: [&str; 5] = ["move", "old", "new", "--ledger", "ledger.tsv"];
+
+fn again(ledger: &str) -> [&str; 5] {
+    ["move", "old", "new", "--ledger", ledger]
+}
+
+#[test]
+fn every_accepted_file_in_nested_folders() {
+    let desk = Desk::new("move");
+    let names = ["one.b", "a/two.b", "a/b/c/three.b", "z/.hidden"];
+    for (seed, name) in (0..).zip(names) {
+        desk.put(
+            format!("old/{name}"),
+            &generate::accepted(seed, 20 + seed as usize),
+        );
+    }
+    fs::create_dir(desk.path("old/empty")).unwrap();
+    let ran = desk.run(&MOVE).ended(0);
+    assert_eq!(
+        ran.out,
+        "4 files below old: 4 accepted, 0 refused, 0 not judged, 0 failed\n\
+         every accepted file moved: 86 records in, 86 records out\n"
+    );
+    for name in names {
+        let before = desk.get(format!("old/{name}"));
+        assert_eq!(desk.get(format!("new/{name}")), house(&before), "{name}");
+    }
+    // Nothing else is written, and nothing taken away.
+    assert_eq!(desk.files("new").len(), 4);
+    assert_eq!(desk.files("old").len(), 4);
+    assert!(!desk.has("new/empty"));
+}
+
+#[test]
+fn refused_files_are_named_and_stay() {
+    let desk = Desk::new("move-refused");
+    desk.put("old/good.b", &sample::file());
+    desk.put("old/bad.b", &sample::with(&sample::file(), 18, 24, " "));
+    desk.put("old/empty.b", b"");
+    let ran = desk.run(&MOVE).ended(1);
+    assert_eq!(
+        ran.out,
+        "bad.b: refused, fault 10, record 18, column 24: a field well formed that disagrees \
+         with an earlier one\n\
+         empty.b: refused, fault 8, record 1, column 1: the file ends where a record must \
+         follow\n\
+         3 files below old: 1 accepted, 2 refused, 0 not judged, 0 failed\n\
+         every accepted file moved: 24 records in, 24 records out\n"
+    );
+    assert_eq!(desk.files("new"), ["good.b"]);
+}
+
+#[test]
+fn nothing_accepted_makes_no_folder() {
+    let desk = Desk::new("move-none");
+    desk.put("old/bad.b", b"bad");
+    desk.run(&MOVE).ended(1);
+    assert!(!desk.has("new") && desk.has("ledger.tsv"));
+}
+
+#[test]
+fn a_second_run_finds_what_is_there_and_changes_nothing() {
+    let desk = Desk::new("move-twice");
+    desk.put("old/a/good.b", &sample::file());
+    desk.put("old/other.b", &generate::accepted(7, 30));
+    desk.run(&MOVE).ended(0);
+    let made = |name| fs::metadata(desk.path(name)).unwrap().modified().unwrap();
+    let before = made("new/a/good.b");
+    let ran = desk.run(&again("second.tsv")).ended(0);
+    assert!(ran.out.contains("54 records in, 54 records out"));
+    assert_eq!(made("new/a/good.b"), before);
+    let ledger = String::from_utf8(desk.get("second.tsv")).unwrap();
+    assert_eq!(ledger.matches("\taccepted, there already\n").count(), 2);
+    // The first ledger is not written over unless told.
+    let kept = desk.get("ledger.tsv");
+    let ran = desk.run(&MOVE).ended(2);
+    assert!(ran
+        .err
+        .starts_with("shelf: ledger.tsv: there is one already"));
+    assert_eq!(desk.get("ledger.tsv"), kept);
+    desk.run(&[&MOVE[..], &["--replace"]].concat()).ended(0);
+    assert_ne!(desk.get("ledger.tsv"), kept);
+}
+
+#[test]
+fn another_file_that_is_there_is_written_over_only_if_told() {
+    let desk = Desk::new("move-over");
+    desk.put("old/a.b", &sample::file());
+    desk.put("old/b.b", &generate::accepted(7, 30));
+    desk.put("new/a.b", b"kept");
+    let ran = desk.run(&MOVE).ended(2);
+    assert!(ran
+        .out
+        .contains("a.b: failed: new/a.b: there is one already"));
+    assert!(!ran.out.contains("every accepted file moved"));
+    assert!(ran.err.contains("not every file could be judged and moved"));
+    assert_eq!(desk.get("new/a.b"), b"kept");
+    assert_eq!(desk.get("new/b.b"), house(&desk.get("old/b.b")));
+    let words = [&again("second.tsv")[..], &["--replace"]].concat();
+    desk.run(&words).ended(0);
+    assert_eq!(desk.get("new/a.b"), house(&sample::file()));
+    assert_eq!(desk.files("new"), ["a.b", "b.b"]);
+}
+
+#[test]
+fn folders_in_each_other_are_refused() {
+    let desk = Desk::new("move-inside");
+    desk.put("old/deep/good.b", &sample::file());
+    symlink("old", desk.path("link")).unwrap();
+    for (old, new) in [
+        ("old", "old"),
+        ("old", "old/new"),
+        ("old", "old/deep/new/newer"),
+        ("old/deep", "old"),
+        ("old", "."),
+        ("old", "link/new"),
+        ("link", "old/new"),
+        ("old", "elsewhere/../old/new"),
+    ] {
+        let ran = desk.run(&["move", old, new, "--ledger", "l.tsv"]).ended(2);
+        assert!(!ran.err.is_empty() && ran.out.is_empty(), "{old} {new}");
+    }
+    assert_eq!(desk.files("."), ["link", "old/deep/good.b"]);
+    // A name that only begins alike is no folder inside.
+    desk.run(&["move", "old", "old2", "--ledger", "l.tsv"])
+        .ended(0);
+}
+
+#[test]
+fn folders_that_are_missing_empty_or_files() {
+    let desk = Desk::new("move-folders");
+    desk.put("file.b", &sample::file());
+    fs::create_dir_all(desk.path("empty/deep")).unwrap();
+    for (old, new, said) in [
+        ("none", "new", "none: there is no such file or folder"),
+        ("file.b", "new", "file.b: it is a file, not a folder"),
+        ("empty", "file.b", "file.b: it is a file, not a folder"),
+        (
+            "empty",
+            "new",
+            "empty: nothing to move: there is no file below it",
+        ),
+    ] {
+        let ran = desk.run(&["move", old, new, "--ledger", "l.tsv"]).ended(2);
+        assert_eq!(ran.err, format!("shelf: {said}\n"));
+    }
+    assert_eq!(desk.files("."), ["file.b"]);
+}
+
+#[test]
+fn a_ledger_among_the_files_is_refused() {
+    let desk = Desk::new("move-ledger");
+    desk.put("old/good.b", &sample::file());
+    for (ledger, said) in [
+        (
+            "old/l.tsv",
+            "the ledger must not stand below the old folder",
+        ),
+        ("new/good.b", "the ledger would take the place of a file"),
+        ("none/l.tsv", "there is no such file or folder"),
+    ] {
+        let ran = desk.run(&again(ledger)).ended(2);
+        assert_eq!(ran.err, format!("shelf: {ledger}: {said}\n"));
+    }
+    assert_eq!(desk.files("."), ["old/good.b"]);
+    fs::create_dir(desk.path("new")).unwrap();
+    desk.run(&again("new/l.tsv")).ended(0);
+    assert_eq!(desk.files("new"), ["good.b", "l.tsv"]);
+}
+
+#[test]
+fn links_and_pipes_are_named_and_not_followed() {
+    let desk = Desk::new("move-links");
+    desk.put("old/good.b", &sample::file());
+    desk.put("outside/secret.b", &sample::file());
+    symlink("../outside", desk.path("old/folder")).unwrap();
+    symlink("../outside/secret.b", desk.path("old/link.b")).unwrap();
+    symlink("nowhere", desk.path("old/dangling")).unwrap();
+    symlink("..", desk.path("old/around")).unwrap();
+    let made = Command::new("mkfifo").arg(desk.path("old/pipe")).status();
+    assert!(made.unwrap().success());
+    let ran = desk.run(&MOVE).ended(1);
+    for name in ["folder", "link.b", "dangling", "around"] {
+        let said = format!("{name}: not judged: a symbolic link, not followed\n");
+        assert!(ran.out.contains(&said), "{}", ran.out);
+    }
+    assert!(ran.out.contains("pipe: not judged: no regular file\n"));
+    assert!(ran
+        .out
+        .contains("6 files below old: 1 accepted, 0 refused, 5 not judged, 0 failed"));
+    assert_eq!(desk.files("new"), ["good.b"]);
+}
+
+/// A link below the new folder could lead to the old files themselves.
+#[test]
+fn a_link_that_leads_out_of_the_new_folder_is_not_followed() {
+    let desk = Desk::new("move-out");
+    let file = sample::file();
+    desk.put("old/sub/good.b", &file);
+    fs::create_dir(desk.path("new")).unwrap();
+    symlink("../old/sub", desk.path("new/sub")).unwrap();
+    let ran = desk.run(&[&MOVE[..], &["--replace"]].concat()).ended(2);
+    assert!(ran
+        .out
+        .contains("failed: new/sub: it leads out of the new folder"));
+    assert_eq!(desk.get("old/sub/good.b"), file);
+}
+
+#[test]
+fn what_cannot_be_read_is_named_and_stops_no_other() {
+    let desk = Desk::new("move-shut");
+    desk.put("old/a-shut/good.b", &sample::file());
+    desk.put("old/b-secret.b", &sample::file());
+    desk.put("old/c-good.b", &sample::file());
+    desk.put("room/.keep", b"");
+    desk.mode("old/a-shut", 0o000);
+    desk.mode("old/b-secret.b", 0o000);
+    desk.mode("room", 0o777);
+    let words = ["move", "old", "room/new", "--ledger", "room/l.tsv"];
+    let ran = desk.run_as_nobody(&words).ended(2);
+    desk.mode("old/a-shut", 0o755);
+    assert!(ran
+        .out
+        .contains("a-shut: failed: old/a-shut: no permission\n"));
+    assert!(ran
+        .out
+        .contains("b-secret.b: failed: old/b-secret.b: no permission\n"));
+    assert!(ran
+        .out
+        .contains("3 files below old: 1 accepted, 0 refused, 0 not judged, 2 failed"));
+    assert_eq!(desk.files("room/new"), ["c-good.b"]);
+}
+
+#[test]
+fn a_file_where_a_folder_is_needed() {
+    let desk = Desk::new("move-blocked");
+    desk.put("old/a/good.b", &sample::file());
+    desk.put("old/b.b", &sample::file());
+    desk.put("new/a", b"kept");
+    let ran = desk.run(&MOVE).ended(2);
+    assert!(ran.out.contains("a/good.b: failed: new/a: "), "{}", ran.out);
+    assert_eq!(desk.get("new/a"), b"kept");
+    assert_eq!(desk.files("new"), ["a", "b.b"]);
+}

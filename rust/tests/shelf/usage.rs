@@ -1,0 +1,76 @@
+//! Wrong words.
+
+use crate::desk::Desk;
+use std::ffi::OsStr;
+use std::os::unix::ffi::OsStrExt;
+
+#[test]
+fn wrong_words_end_with_2_and_say_what_is_wrong() {
+    let desk = Desk::new("usage");
+    for (words, what) in [
+        (&[][..], "no command was given"),
+        (&["frobnicate"], "there is no command frobnicate"),
+        (&["check"], "check needs at least one file"),
+        (&["sheet"], "sheet needs one file"),
+        (&["sheet", "a", "b"], "sheet needs one file"),
+        (&["show", "a"], "show needs a file and a record number"),
+        (&["show", "a", "x"], "x is no record number"),
+        (&["show", "a", "-1"], "there is no option -1"),
+        (&["show", "a", "+1"], "+1 is no record number"),
+        (&["show", "a", ""], "is no record number"),
+        (
+            &["show", "a", "4294967296"],
+            "4294967296 is no record number",
+        ),
+        (&["rewrite", "a"], "rewrite needs two files"),
+        (&["move", "a", "b"], "move needs --ledger FILE"),
+        (&["move", "a", "b", "--ledger"], "--ledger needs a file"),
+        (
+            &["move", "a", "--ledger", "c"],
+            "move needs an old and a new",
+        ),
+        (
+            &["move", "a", "b", "--ledger", "c", "--ledger", "d"],
+            "--ledger was given twice",
+        ),
+        (&["check", "a", "--replace"], "check takes no --replace"),
+        (
+            &["rewrite", "a", "b", "--ledger", "c"],
+            "rewrite takes no --ledger",
+        ),
+        (&["check", "--quickly", "a"], "there is no option --quickly"),
+    ] {
+        let ran = desk.run(words).ended(2);
+        assert!(ran.err.contains(what), "{words:?}: {}", ran.err);
+        assert!(ran.err.contains("`shelf help` says how to call it"));
+        assert_eq!(ran.out, "");
+    }
+    assert_eq!(desk.files("."), [""; 0]);
+}
+
+#[test]
+fn help_is_given_when_asked_for() {
+    let desk = Desk::new("help");
+    for words in [&["help"][..], &["--help"], &["-h"], &["move", "--help"]] {
+        let ran = desk.run(words).ended(0);
+        for verb in ["check", "sheet", "show", "rewrite", "move"] {
+            assert!(ran.out.contains(&format!("shelf {verb} ")));
+        }
+        assert_eq!(ran.err, "");
+    }
+}
+
+#[test]
+fn a_command_that_is_no_text_is_shown_with_its_bytes() {
+    let desk = Desk::new("bytes");
+    let ran = desk.run(&[OsStr::from_bytes(b"\xff\n")]).ended(2);
+    assert!(ran.err.contains("there is no command \\xFF\\n\n"));
+}
+
+#[test]
+fn names_behind_two_dashes_may_begin_with_one() {
+    let desk = Desk::new("dashes");
+    desk.put("-x.b", &shelf::sample::file());
+    let ran = desk.run(&["check", "--", "-x.b"]).ended(0);
+    assert!(ran.out.starts_with("-x.b: accepted, 24 records:"));
+}
