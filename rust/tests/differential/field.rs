@@ -7,17 +7,16 @@ use shelf::plain::layout::FIELDS;
 use shelf::plain::LINE;
 use shelf::sample;
 
+/// Every record of a few files, one record of others.
 #[test]
 fn every_column() {
-    let mut pair = Pair::new();
-    let mut tried = 0;
-    files::damaged(&mut |file| {
-        if file.len() < 20 * LINE && tried < 500 {
-            tried += 1;
-            every_field(&mut pair, file);
+    Pair::over(files::damaged, least::FIELDS, |pair, file, record| {
+        match record % 8 {
+            0 if file.len() < 15 * LINE => every_field(pair, file),
+            1 => every_field_of(pair, file, record),
+            _ => (),
         }
     });
-    pair.tried(least::FIELDS);
 }
 
 /// In a good file the fields cover columns 11-80 of each record.
@@ -45,8 +44,12 @@ fn good_fields_are_found() {
 fn every_field(pair: &mut Pair, file: &[u8]) {
     let last = (file.len() / LINE) as u32;
     for record in (0..=last + 1).chain([100_000, u32::MAX]) {
-        for column in (0..=83).chain([255, 267, 65_547, u32::MAX]) {
-            pair.field(file, record, column, FIELD_WORDS);
-        }
+        every_field_of(pair, file, record);
+    }
+}
+
+fn every_field_of(pair: &mut Pair, file: &[u8], record: u32) {
+    for column in (0..=83).chain([255, 267, 65_547, u32::MAX]) {
+        pair.field(file, record, column, FIELD_WORDS);
     }
 }

@@ -1,12 +1,17 @@
 //! Files to try, by family; check, rewrite and read are tried on each.
+//!
+//! A family hands over each of its files with the number of a record: the one
+//! that was changed, or one about where the file was.
 
 use shelf::generate::{self, Dice};
 use shelf::plain::layout::{kind_of, FIELDS};
 use shelf::plain::LINE;
 use shelf::sample;
 
+pub type Family = fn(&mut dyn FnMut(&[u8], u32));
+
 /// Each of the sample's bytes, which has all fourteen kinds, as each of the
-/// 256. Gives the file and the record that was changed.
+/// 256.
 pub fn every_byte(try_file: &mut dyn FnMut(&[u8], u32)) {
     let mut file = sample::file();
     for at in 0..file.len() {
@@ -61,18 +66,19 @@ pub fn two_bytes(try_file: &mut dyn FnMut(&[u8], u32)) {
 }
 
 /// Made-up files, accepted and damaged in every way.
-pub fn damaged(try_file: &mut dyn FnMut(&[u8])) {
+pub fn damaged(try_file: &mut dyn FnMut(&[u8], u32)) {
     for seed in 0..41_000 {
         // Those at the limit have a test of their own.
         if seed % 64 != 63 {
-            try_file(&generate::case(seed));
+            let file = generate::case(seed);
+            try_file(&file, record_of(seed as usize % file.len().max(1)));
         }
     }
 }
 
 /// Files that end anywhere, with and without something behind, and files
 /// with carriage returns.
-pub fn cut(try_file: &mut dyn FnMut(&[u8])) {
+pub fn cut(try_file: &mut dyn FnMut(&[u8], u32)) {
     let files = [
         sample::file(),
         generate::accepted(21, 11),
@@ -80,30 +86,31 @@ pub fn cut(try_file: &mut dyn FnMut(&[u8])) {
     ];
     for file in &files {
         for end in 0..=file.len() {
-            try_file(&file[..end]);
+            try_file(&file[..end], record_of(end));
             for byte in *b"\n \x7f" {
-                try_file(&[&file[..end], &[byte]].concat());
+                try_file(&[&file[..end], &[byte]].concat(), record_of(end));
             }
         }
         for end in (LINE..=file.len()).step_by(LINE) {
             let (before, behind) = file.split_at(end - 1);
-            try_file(&[before, b"\r", behind].concat());
-            try_file(&[before, b"\r\n\n", &behind[1..]].concat());
-            try_file(&[before, &behind[1..]].concat());
+            let record = record_of(end - 1);
+            try_file(&[before, b"\r", behind].concat(), record);
+            try_file(&[before, b"\r\n\n", &behind[1..]].concat(), record);
+            try_file(&[before, &behind[1..]].concat(), record);
         }
         let returns = file.split_inclusive(|&byte| byte == b'\n');
         let returns: Vec<u8> = returns
             .flat_map(|line| [&line[..LINE - 1], b"\r\n"].concat())
             .collect();
         for end in 0..=returns.len() {
-            try_file(&returns[..end]);
+            try_file(&returns[..end], record_of(end));
         }
     }
 }
 
 /// Lines put in, put in place of another, taken out and exchanged, at every
 /// place: what may follow what.
-pub fn order(try_file: &mut dyn FnMut(&[u8])) {
+pub fn order(try_file: &mut dyn FnMut(&[u8], u32)) {
     let mut files = vec![sample::file()];
     files.extend((0..16).map(|seed| generate::accepted(seed, 11 + seed as usize)));
     let others = [
@@ -120,17 +127,18 @@ pub fn order(try_file: &mut dyn FnMut(&[u8])) {
         for at in (0..=file.len()).step_by(LINE) {
             let (before, behind) = file.split_at(at);
             let after = behind.get(LINE..).unwrap_or(b"");
-            try_file(&[before, after].concat());
+            let record = record_of(at);
+            try_file(&[before, after].concat(), record);
             for line in &candidates {
-                try_file(&[before, line, behind].concat());
-                try_file(&[before, line, after].concat());
+                try_file(&[before, line, behind].concat(), record);
+                try_file(&[before, line, after].concat(), record);
             }
             for other in (at + LINE..file.len()).step_by(LINE) {
                 let mut exchanged = file.clone();
                 for column in 0..LINE {
                     exchanged.swap(at + column, other + column);
                 }
-                try_file(&exchanged);
+                try_file(&exchanged, record);
             }
         }
     }

@@ -21,12 +21,12 @@ mod least {
     pub const CUT: u64 = 10_000;
     pub const ORDER: u64 = 15_000;
     pub const READ_RECORDS: u64 = 300_000;
-    pub const FIELDS: u64 = 400_000;
+    pub const FIELDS: u64 = 1_000_000;
     pub const WRITE_WORDS: u64 = 100_000;
     pub const WRITE_TEXTS: u64 = 220_000;
     pub const WRITE_MIXED: u64 = 300_000;
 
-    /// Check, rewrite and read each try the first six families.
+    /// Check, rewrite and read each try these families.
     const ALL: u64 = 3 * (EVERY_BYTE + FILLED + TWO_BYTES + DAMAGED + CUT + ORDER)
         + READ_RECORDS
         + FIELDS

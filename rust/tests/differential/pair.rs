@@ -1,11 +1,12 @@
 //! Both implementations, given the same and compared.
 
+use crate::files::Family;
 use shelf::calls::{Calls, CHECK_WORDS, FIELD_WORDS, READ_WORDS, WRITE_WORDS};
 use shelf::library::Library;
 use shelf::plain::layout::{kind_of, KINDS};
 use shelf::plain::{Plain, LINE, TABLE_WORDS};
 use std::fmt::Debug;
-use std::{env, fs, process, thread};
+use std::{env, fs, thread};
 
 /// What is expected comes from the first, what is found from the second.
 const BOTH: [&dyn Calls; 2] = [&Plain, &Library];
@@ -91,7 +92,6 @@ impl Pair {
     /// Read with all that it needs and a word more.
     pub fn read(&mut self, file: &[u8], record: u32) {
         let fault = self.read_lent(file, record, READ_WORDS + 1);
-        // Its own record is the one asked for, and 13 has none.
         self.place(file, fault);
     }
 
@@ -171,6 +171,14 @@ impl Pair {
         self.places[number as usize][kind][column as usize] += 1;
     }
 
+    /// Tries a call on each file of a family.
+    pub fn over(family: Family, least: u64, call: impl Fn(&mut Pair, &[u8], u32)) -> Pair {
+        let mut pair = Pair::new();
+        family(&mut |file, record| call(&mut pair, file, record));
+        pair.tried(least);
+        pair
+    }
+
     /// Says how many cases a test has tried, which `--nocapture` shows, and
     /// that they are no fewer than meant.
     pub fn tried(&self, least: u64) {
@@ -213,7 +221,8 @@ fn same<T: PartialEq + Debug, P: AsRef<[T]>>(
         .zip(found)
         .position(|(one, other)| one != other);
     let place = place.unwrap_or(expected.len().min(found.len()));
-    let name = env::temp_dir().join(format!("shelf-differs-{}.b", process::id()));
+    let test = thread::current().name().unwrap_or("").replace(':', "-");
+    let name = env::temp_dir().join(format!("shelf-differs-{test}.b"));
     let kept = match fs::write(&name, file) {
         Ok(()) => format!("kept as {}", name.display()),
         Err(trouble) => format!("not kept: {trouble}"),

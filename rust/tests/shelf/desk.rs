@@ -58,7 +58,7 @@ impl Desk {
         while let Some(next) = folders.pop() {
             for entry in fs::read_dir(next).into_iter().flatten() {
                 let entry = entry.unwrap();
-                if entry.file_type().unwrap().is_dir() {
+                if entry.file_type().is_ok_and(|kind| kind.is_dir()) {
                     folders.push(entry.path());
                 } else {
                     let path = entry.path();

@@ -6,7 +6,7 @@ use std::process::{Child, Command, Stdio};
 use std::thread::sleep;
 use std::time::Duration;
 
-const FILES: usize = 1_500;
+const FILES: usize = 600;
 
 /// Starts a move of many files and waits until some are there.
 fn started(desk: &Desk) -> Child {
@@ -21,7 +21,7 @@ fn started(desk: &Desk) -> Child {
         .stderr(Stdio::piped())
         .spawn()
         .unwrap();
-    while desk.files("new").len() < 20 {
+    while named(desk).len() < 20 {
         sleep(Duration::from_millis(1));
     }
     child
@@ -33,10 +33,16 @@ fn send(child: &Child, signal: &str) {
     assert!(sent.unwrap().success());
 }
 
+/// The files below the new folder that have their names; drafts have others.
+fn named(desk: &Desk) -> Vec<String> {
+    let mut names = desk.files("new");
+    names.retain(|name| name.ends_with(".b"));
+    names
+}
+
 /// Every file that has its name is whole and in house style. Gives how many.
 fn whole(desk: &Desk) -> usize {
-    let names = desk.files("new");
-    let named: Vec<&String> = names.iter().filter(|name| name.ends_with(".b")).collect();
+    let named = named(desk);
     for name in &named {
         let before = desk.get(format!("old/{name}"));
         assert!(desk.get(format!("new/{name}")) == house(&before), "{name}");

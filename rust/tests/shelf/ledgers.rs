@@ -57,10 +57,11 @@ fn a_row_for_each_file_and_totals_at_the_end() {
 
     // The totals are the sums of the rows of their outcome.
     assert_eq!(rows[5][1..3], ["84", "84"]);
-    for column in 3..17 {
-        let of = |row: usize| rows[row][column].parse::<u32>().unwrap();
-        assert_eq!(of(5), of(1) + of(2));
-    }
+    let counts = |row: usize| rows[row][3..17].iter().map(|count| count.parse().unwrap());
+    let sums = counts(1)
+        .zip(counts(2))
+        .map(|(one, other): (u32, u32)| one + other);
+    assert!(counts(5).eq(sums));
     assert_eq!(rows[5][17..], ["-", "-", "-", "2 files"]);
     assert_eq!(rows[6][1..3], ["64", "0"]);
     assert_eq!(rows[6][20], "2 files");

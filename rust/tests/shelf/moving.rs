@@ -239,6 +239,18 @@ fn what_cannot_be_read_is_named_and_stops_no_other() {
     assert_eq!(desk.files("room/new"), ["c-good.b"]);
 }
 
+/// A pipe where a file is to stand keeps nobody waiting.
+#[test]
+fn a_pipe_where_a_file_is_to_stand() {
+    let desk = Desk::new("move-pipe");
+    desk.put("old/good.b", &sample::file());
+    fs::create_dir(desk.path("new")).unwrap();
+    let made = Command::new("mkfifo").arg(desk.path("new/good.b")).status();
+    assert!(made.unwrap().success());
+    let ran = desk.run(&[&MOVE[..], &["--replace"]].concat()).ended(2);
+    assert!(ran.out.contains("not written over: it is no regular file"));
+}
+
 #[test]
 fn a_file_where_a_folder_is_needed() {
     let desk = Desk::new("move-blocked");

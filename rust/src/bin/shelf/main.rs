@@ -24,6 +24,7 @@ mod trouble;
 mod walk;
 
 use arguments::Command;
+use shelf::library::IS_STANDIN;
 use status::Status;
 use std::io::{self, Write};
 use std::process::ExitCode;
@@ -50,10 +51,17 @@ fn run(command: Command, out: &mut dyn Write) -> Result<Status, Trouble> {
         Command::Show { file, record } => show::run(&file, record, out),
         Command::Rewrite { from, to, replace } => rewrite::run(&from, &to, replace, out),
         Command::Move(order) => moving::run(&order, out),
-        Command::Help => {
-            out.write_all(arguments::USAGE.as_bytes())
-                .map_err(Trouble::standard_output)?;
-            Ok(Status::Accepted)
-        }
+        Command::Help => help(out).map_err(Trouble::standard_output),
     }
+}
+
+fn help(out: &mut dyn Write) -> io::Result<Status> {
+    out.write_all(arguments::USAGE.as_bytes())?;
+    if IS_STANDIN {
+        writeln!(
+            out,
+            "\nThis build goes by a stand-in for the proved library."
+        )?;
+    }
+    Ok(Status::Accepted)
 }

@@ -92,6 +92,14 @@ fn resolved(path: &Path) -> io::Result<PathBuf> {
     }
 }
 
+/// Whether a file holds these bytes. Nothing else is opened: a pipe would
+/// keep the reader waiting.
+fn holds(path: &Path, bytes: &[u8]) -> bool {
+    let known = fs::symlink_metadata(path);
+    known.is_ok_and(|there| there.is_file() && there.len() == bytes.len() as u64)
+        && fs::read(path).is_ok_and(|there| there == bytes)
+}
+
 struct Mover<'a> {
     order: &'a Order,
     /// The new folder's own path.
@@ -136,16 +144,16 @@ impl Mover<'_> {
 
     fn written(&mut self, name: &Path, source: &[u8], verdict: &Verdict, house: &[u8]) -> Outcome {
         let target = self.order.new.join(name);
-        if fs::read(&target).is_ok_and(|there| there == house) {
+        if let Err(trouble) = self.folder_for(&target) {
+            return Outcome::Failed(trouble.to_string());
+        }
+        if holds(&target, house) {
             return match house::compare(source, verdict, house) {
                 Ok(()) => Outcome::ThereAlready,
                 Err(what) => Outcome::Failed(format!("what is there {what}")),
             };
         }
-        let written = self
-            .folder_for(&target)
-            .and_then(|()| house::write(source, verdict, house, &target, self.order.replace));
-        match written {
+        match house::write(source, verdict, house, &target, self.order.replace) {
             Ok(()) => Outcome::Moved,
             Err(trouble) => Outcome::Failed(trouble.to_string()),
         }
