@@ -10,6 +10,7 @@ mod limits;
 mod pair;
 mod read;
 mod rewrite;
+mod typed;
 mod write;
 
 /// The fewest cases each test has to try; a case is one call, compared.

@@ -8,19 +8,16 @@ use std::time::Duration;
 
 const FILES: usize = 600;
 
+const MOVE: [&str; 5] = ["move", "old", "new", "--ledger", "ledger.tsv"];
+
 /// Starts a move of many files and waits until some are there.
-fn started(desk: &Desk) -> Child {
+fn started(desk: &Desk, mut command: Command) -> Child {
     for number in 0..FILES {
         let file = generate::accepted(number as u64, 11 + number % 30);
         desk.put(format!("old/{:02}/{number:04}.b", number % 20), &file);
     }
-    let words = ["move", "old", "new", "--ledger", "ledger.tsv"];
-    let child = desk
-        .command(&words)
-        .stdout(Stdio::null())
-        .stderr(Stdio::piped())
-        .spawn()
-        .unwrap();
+    command.stdout(Stdio::null()).stderr(Stdio::piped());
+    let child = command.spawn().unwrap();
     while named(desk).len() < 20 {
         sleep(Duration::from_millis(1));
     }
@@ -63,7 +60,7 @@ fn taken_up(desk: &Desk, ledger: &str) {
 fn asked_to_stop_it_tidies_up_and_names_what_was_not_reached() {
     for signal in ["-INT", "-TERM"] {
         let desk = Desk::new(&format!("stop{signal}"));
-        let child = started(&desk);
+        let child = started(&desk, desk.command(&MOVE));
         send(&child, signal);
         let output = child.wait_with_output().unwrap();
         assert_eq!(output.status.code(), Some(2));
@@ -85,7 +82,7 @@ fn asked_to_stop_it_tidies_up_and_names_what_was_not_reached() {
 #[test]
 fn killed_it_leaves_only_whole_files_under_their_names() {
     let desk = Desk::new("kill");
-    let mut child = started(&desk);
+    let mut child = started(&desk, desk.command(&MOVE));
     send(&child, "-KILL");
     child.wait().unwrap();
     let done = whole(&desk);
@@ -95,4 +92,22 @@ fn killed_it_leaves_only_whole_files_under_their_names() {
     let drafts = desk.files("new").len() - done;
     assert!(drafts <= 1, "{drafts}");
     taken_up(&desk, "ledger.tsv");
+}
+
+/// As under `nohup`.
+#[test]
+fn a_signal_that_was_ignored_stays_so() {
+    let desk = Desk::new("ignored");
+    let mut command = Command::new("sh");
+    let line = format!(
+        "trap '' HUP; exec {} {}",
+        env!("CARGO_BIN_EXE_shelf"),
+        MOVE.join(" ")
+    );
+    command.arg("-c").arg(line).current_dir(desk.path("."));
+    let child = started(&desk, command);
+    send(&child, "-HUP");
+    let output = child.wait_with_output().unwrap();
+    assert_eq!(output.status.code(), Some(0));
+    assert_eq!(whole(&desk), FILES);
 }

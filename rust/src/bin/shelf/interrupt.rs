@@ -8,27 +8,33 @@ const INTERRUPT: i32 = 2;
 const TERMINATE: i32 = 15;
 const FILE_SIZE: i32 = 25;
 
+/// What stands for a handler where a signal is ignored.
+const IGNORED: usize = 1;
+
 static ASKED: AtomicBool = AtomicBool::new(false);
 
 extern "C" {
-    fn signal(number: i32, handler: extern "C" fn(i32)) -> usize;
+    fn signal(number: i32, handler: usize) -> usize;
 }
 
 extern "C" fn ask(_: i32) {
     ASKED.store(true, Ordering::Relaxed);
 }
 
-/// A write beyond the limit on a file's size then fails like any other.
-extern "C" fn go_on(_: i32) {}
-
 /// From now on these signals only set a mark.
 pub fn heed() {
-    // Setting an atomic is all a handler does, which is allowed in one.
+    let handler = ask as extern "C" fn(i32) as usize;
+    // Setting an atomic is all the handler does, which is allowed in one.
     unsafe {
         for number in [HANG_UP, INTERRUPT, TERMINATE] {
-            signal(number, ask);
+            // Whoever started the command with a signal ignored, as `nohup`
+            // does, wants it to go on.
+            if signal(number, handler) == IGNORED {
+                signal(number, IGNORED);
+            }
         }
-        signal(FILE_SIZE, go_on);
+        // A write beyond the limit on a file's size then fails like others.
+        signal(FILE_SIZE, IGNORED);
     }
 }
 
