@@ -3,10 +3,13 @@
 use shelf::plain;
 use std::ffi::OsStr;
 use std::fs;
-use std::os::unix::fs::PermissionsExt;
+use std::io::ErrorKind;
+use std::os::unix::fs::{MetadataExt, PermissionsExt};
 use std::os::unix::process::CommandExt;
 use std::path::{Path, PathBuf};
 use std::process::{Command, Output, Stdio};
+use std::thread::sleep;
+use std::time::Duration;
 use std::{env, process};
 
 /// A user without rights; root would be let through everywhere.
@@ -91,14 +94,19 @@ impl Desk {
         self.mode(".", 0o755);
         let mut command = Command::new(program);
         command.args(words).current_dir(&self.folder);
-        let is_root = fs::metadata("/proc/self").is_ok_and(|own| {
-            use std::os::unix::fs::MetadataExt;
-            own.uid() == 0
-        });
+        let is_root = fs::metadata("/proc/self").is_ok_and(|own| own.uid() == 0);
         if is_root {
             command.uid(NOBODY).gid(NOBODY);
         }
-        Ran::of(command.output().unwrap())
+        loop {
+            match command.output() {
+                // Another test's new process may still hold the copy open.
+                Err(error) if error.kind() == ErrorKind::ExecutableFileBusy => {
+                    sleep(Duration::from_millis(5));
+                }
+                output => return Ran::of(output.unwrap()),
+            }
+        }
     }
 
     pub fn mode(&self, name: &str, mode: u32) {

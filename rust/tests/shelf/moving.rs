@@ -79,14 +79,18 @@ fn a_second_run_finds_what_is_there_and_changes_nothing() {
     assert_eq!(made("new/a/good.b"), before);
     let ledger = String::from_utf8(desk.get("second.tsv")).unwrap();
     assert_eq!(ledger.matches("\taccepted, there already\n").count(), 2);
-    // The first ledger is not written over unless told.
+    // The first ledger is not written over unless told, and this shows
+    // before anything is moved.
     let kept = desk.get("ledger.tsv");
+    desk.put("old/later.b", &sample::file());
     let ran = desk.run(&MOVE).ended(2);
     assert!(ran
         .err
         .starts_with("shelf: ledger.tsv: there is one already"));
     assert_eq!(desk.get("ledger.tsv"), kept);
+    assert!(!desk.has("new/later.b"));
     desk.run(&[&MOVE[..], &["--replace"]].concat()).ended(0);
+    assert!(desk.has("new/later.b"));
     assert_ne!(desk.get("ledger.tsv"), kept);
 }
 

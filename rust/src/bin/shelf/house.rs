@@ -112,5 +112,8 @@ mod tests {
         assert!(compare(&source, &verdict, &short).is_err());
         assert!(compare(&source, &verdict, &source).is_err());
         assert!(compare(&source, &verdict, &house).is_ok());
+        let mut other = verdict;
+        other.counts[10] += 1;
+        assert!(compare(&source, &other, &house).is_err());
     }
 }
