@@ -118,6 +118,25 @@ fn every_word() {
     assert!(pair.faults_at(9, JOB, 7) > 0);
 }
 
+/// The kind and the sequence number together: which of them is named.
+#[test]
+fn every_kind_and_sequence() {
+    let mut pair = Pair::new();
+    let text = [b' '; 70];
+    let sequences = [-2, -1, 0, 1, 999_999, 1_000_000, MISSING, i64::MAX, 1 << 32];
+    for kind in (-3..=20).chain([256, 261, 1 << 32, (1 << 32) + 5, MISSING, i64::MAX]) {
+        for sequence in sequences {
+            for count in 0..=3 {
+                let values = &[kind, sequence, 65][..count];
+                pair.write(values, [&text, b"", b""]);
+            }
+        }
+    }
+    pair.tried(1_000);
+    assert!(pair.faults(0) > 20);
+    assert!(pair.faults_at(9, KINDS.len(), 1) > 0 && pair.faults_at(9, KINDS.len(), 7) > 0);
+}
+
 /// Counts below what the kind needs, and above.
 #[test]
 fn every_count() {

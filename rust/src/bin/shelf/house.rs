@@ -9,26 +9,29 @@ use std::path::Path;
 
 /// Writes the house style of an accepted file to `target`. What the disk
 /// gives back must mean what the file meant, or nothing is put in place.
+/// Gives the verdict on what the disk gave back.
 pub fn write(
     source: &[u8],
     verdict: &Verdict,
     house: &[u8],
     target: &Path,
     replace: bool,
-) -> Result<(), Trouble> {
+) -> Result<Verdict, Trouble> {
     let mut draft = Draft::begin(target, replace)?;
     draft.add(house)?;
     draft.flush()?;
-    compare(source, verdict, &draft.read_back()?).map_err(|what| {
+    let again = compare(source, verdict, &draft.read_back()?).map_err(|what| {
         let what = format!("not put in place, since what was written {what}");
         Trouble::about(target, what)
     })?;
-    draft.place(replace)
+    draft.place(replace)?;
+    Ok(again)
 }
 
 /// Compares a file as written with what it was made from: counts, settled
-/// house style, and every record's meaning. Says what is wrong, if anything.
-pub fn compare(source: &[u8], verdict: &Verdict, written: &[u8]) -> Result<(), String> {
+/// house style, and every record's meaning. Gives the verdict on what was
+/// written, or what is wrong with it.
+pub fn compare(source: &[u8], verdict: &Verdict, written: &[u8]) -> Result<Verdict, String> {
     if written.len() != source.len() {
         return Err(format!("has {} bytes, not {}", written.len(), source.len()));
     }
@@ -44,7 +47,7 @@ pub fn compare(source: &[u8], verdict: &Verdict, written: &[u8]) -> Result<(), S
             return Err(format!("means something else in record {number}"));
         }
     }
-    Ok(())
+    Ok(again)
 }
 
 /// The kind and every value from column 11 on; the sequence number has no
@@ -71,10 +74,11 @@ fn same_meaning(source: &[u8], written: &[u8], number: u32) -> bool {
 #[cfg(test)]
 mod tests {
     use super::compare;
-    use shelf::{library, sample};
+    use shelf::library::{self, Verdict};
+    use shelf::sample;
 
     /// The house style of the sample with some columns of a record replaced.
-    fn verdict_on(record: usize, first: usize, text: &str) -> Result<(), String> {
+    fn verdict_on(record: usize, first: usize, text: &str) -> Result<Verdict, String> {
         let source = sample::file();
         let (verdict, house) = library::rewrite(&source);
         compare(
@@ -86,7 +90,8 @@ mod tests {
 
     #[test]
     fn the_house_style_passes_and_every_change_of_it_is_seen() {
-        assert_eq!(verdict_on(1, 1, "000010"), Ok(()));
+        let good = library::check(&sample::file());
+        assert_eq!(verdict_on(1, 1, "000010"), Ok(good));
         for (record, first, text) in [
             // A sequence number, a padded number, a height, an angle, a
             // code, a text, a job code.

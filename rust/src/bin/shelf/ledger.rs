@@ -175,11 +175,11 @@ impl Rows {
 }
 
 impl Row {
-    /// A row of a file that got no verdict.
-    pub fn without_verdict(name: &Path, outcome: Outcome) -> Row {
+    /// A row of a file of which nothing came out.
+    pub fn new(name: &Path, records_in: u64, outcome: Outcome) -> Row {
         Row {
             name: names::shown(name),
-            records_in: 0,
+            records_in,
             records_out: 0,
             counts: [0; 14],
             outcome,

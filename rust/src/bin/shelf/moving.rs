@@ -2,7 +2,7 @@
 //! each accepted one in house style below NEW. Nothing below OLD is changed.
 
 use crate::arguments::Order;
-use crate::ledger::{Group, Ledger, Outcome, Row, Rows, GROUPS};
+use crate::ledger::{Ledger, Outcome, Row, Rows, GROUPS};
 use crate::load::{load, Loaded};
 use crate::progress::Progress;
 use crate::status::Status;
@@ -92,12 +92,14 @@ fn resolved(path: &Path) -> io::Result<PathBuf> {
     }
 }
 
-/// Whether a file holds these bytes. Nothing else is opened: a pipe would
-/// keep the reader waiting.
-fn holds(path: &Path, bytes: &[u8]) -> bool {
-    let known = fs::symlink_metadata(path);
-    known.is_ok_and(|there| there.is_file() && there.len() == bytes.len() as u64)
-        && fs::read(path).is_ok_and(|there| there == bytes)
+/// What a file holds, if it is these bytes. Only regular files are opened: a
+/// pipe would keep the reader waiting.
+fn holding(path: &Path, bytes: &[u8]) -> Option<Vec<u8>> {
+    let known = fs::symlink_metadata(path).ok()?;
+    if !known.is_file() || known.len() != bytes.len() as u64 {
+        return None;
+    }
+    fs::read(path).ok().filter(|there| there == bytes)
 }
 
 struct Mover<'a> {
@@ -120,43 +122,43 @@ impl Mover<'_> {
                 Err(trouble) => Outcome::Failed(trouble.to_string()),
             },
         };
-        Row::without_verdict(&entry.name, outcome)
+        Row::new(&entry.name, 0, outcome)
     }
 
     fn judged(&mut self, name: &Path, loaded: &Loaded) -> Row {
         let (verdict, rewritten) = library::rewrite(&loaded.bytes);
-        let outcome = if verdict.is_accepted() {
-            self.written(name, &loaded.bytes, &verdict, &rewritten)
-        } else {
-            Outcome::Refused(verdict.fault)
-        };
-        let moved = outcome.group() == Group::Accepted;
-        let records: u32 = verdict.counts.iter().sum();
-        Row {
-            name: names::shown(name),
-            records_in: loaded.records(),
-            // The counts are those of what was read back.
-            records_out: if moved { u64::from(records) } else { 0 },
-            counts: if moved { verdict.counts } else { [0; 14] },
-            outcome,
+        let mut row = Row::new(name, loaded.records(), Outcome::Refused(verdict.fault));
+        if verdict.is_accepted() {
+            match self.written(name, &loaded.bytes, &verdict, &rewritten) {
+                Ok((outcome, written)) => {
+                    row.outcome = outcome;
+                    row.counts = written.counts;
+                    row.records_out = written.counts.iter().copied().map(u64::from).sum();
+                }
+                Err(trouble) => row.outcome = Outcome::Failed(trouble.to_string()),
+            }
         }
+        row
     }
 
-    fn written(&mut self, name: &Path, source: &[u8], verdict: &Verdict, house: &[u8]) -> Outcome {
+    /// Sees that the house style of an accepted file stands below the new
+    /// folder. Gives the verdict on what stands there.
+    fn written(
+        &mut self,
+        name: &Path,
+        source: &[u8],
+        verdict: &Verdict,
+        house: &[u8],
+    ) -> Result<(Outcome, Verdict), Trouble> {
         let target = self.order.new.join(name);
-        if let Err(trouble) = self.folder_for(&target) {
-            return Outcome::Failed(trouble.to_string());
+        self.folder_for(&target)?;
+        if let Some(there) = holding(&target, house) {
+            let written = house::compare(source, verdict, &there)
+                .map_err(|what| Trouble::about(&target, format!("what is there {what}")))?;
+            return Ok((Outcome::ThereAlready, written));
         }
-        if holds(&target, house) {
-            return match house::compare(source, verdict, house) {
-                Ok(()) => Outcome::ThereAlready,
-                Err(what) => Outcome::Failed(format!("what is there {what}")),
-            };
-        }
-        match house::write(source, verdict, house, &target, self.order.replace) {
-            Ok(()) => Outcome::Moved,
-            Err(trouble) => Outcome::Failed(trouble.to_string()),
-        }
+        let written = house::write(source, verdict, house, &target, self.order.replace)?;
+        Ok((Outcome::Moved, written))
     }
 
     /// Makes the folder of a file. A link in the new folder must not lead
