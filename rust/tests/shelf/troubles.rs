@@ -46,11 +46,13 @@ fn no_permission() {
     assert_eq!(ran.err, "shelf: secret.b: no permission\n");
     assert!(ran.out.starts_with("good.b: accepted"));
     // The folder can be read and not written to.
-    desk.mode(".", 0o555);
-    let ran = desk.run_as_nobody(&["rewrite", "good.b", "out.b"]).ended(2);
-    assert_eq!(ran.err, "shelf: out.b: no permission\n");
-    desk.mode(".", 0o755);
-    assert!(!desk.has("out.b"));
+    desk.put("shut/other.b", b"");
+    desk.mode("shut", 0o555);
+    let words = ["rewrite", "good.b", "shut/out.b"];
+    let ran = desk.run_as_nobody(&words).ended(2);
+    assert_eq!(ran.err, "shelf: shut/out.b: no permission\n");
+    desk.mode("shut", 0o755);
+    assert_eq!(desk.files("shut"), ["other.b"]);
 }
 
 #[test]
