@@ -2,6 +2,7 @@
 //! generated files.
 
 mod columns;
+mod examples;
 mod faults;
 mod files_tried;
 mod generated;
