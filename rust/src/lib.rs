@@ -9,6 +9,7 @@ pub mod calls;
 pub mod generate;
 pub mod library;
 pub mod plain;
+pub mod published;
 pub mod sample;
 pub mod specimens;
 #[cfg(feature = "standin")]

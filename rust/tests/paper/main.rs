@@ -6,6 +6,7 @@ mod examples;
 mod faults;
 mod files_tried;
 mod generated;
+mod published;
 mod reading;
 mod sample;
 mod sheet;
