@@ -1,4 +1,5 @@
 // The fields of a line from the left, each of its kind and range (9) and in agreement with earlier ones (10).
+use crate::records::is_good;
 use columns::Set;
 use columns::Way;
 use columns::angles::angle_spot;
@@ -36,7 +37,7 @@ ghost use Rattle.kinds.specs.Values.{judgedOf, expectOf};
 ghost use Rattle.judging.specs.Judging.{agreesIn, judgeRow, judgeRowAt, sized};
 
 // Of its kind and range.
-fn good_item(item: Item, part: &[u8]) -> bool
+pub(crate) fn good_item(item: Item, part: &[u8]) -> bool
     requires { ⌜ sized (itemOf item (length (now part))) ≡ true ⌝ }
     ensures { λ r. ⌜ r ≡ good (itemOf item (length (now (part .entry)))) (now (part .entry)) ⌝ }
 {
@@ -118,7 +119,7 @@ fn same_truth(a: bool, b: bool) -> bool
 }
 
 // In agreement with what stands before it in the line, and with what went before in the file.
-fn agrees_item(e: Expect, line: &[u8], bond: Bond, part: &[u8]) -> bool
+pub(crate) fn agrees_item(e: Expect, line: &[u8], bond: Bond, part: &[u8]) -> bool
     requires { ⌜ 80 ≤ length (now line) ⌝ }
     ensures { λ r. ⌜ r ≡ agreesIn (expectOf e) (now (line .entry)) bond (now (part .entry)) ⌝ }
 {
@@ -158,8 +159,8 @@ fn judge_at(e: Expect, line: &[u8], i: usize) -> Judged
     judge_row(e, line, item_at(i), bond_at(i), first, width)
 }
 
-// The fields from column 11 on of a line of a kind.
-pub fn judge_fields(line: &[u8], kind: usize, e: Expect) -> Judged
+// Row by row of the tables: the first fault.
+fn judge_rows(line: &[u8], kind: usize, e: Expect) -> Judged
     requires { ⌜ (80 ≤ length (now line)) × (kind < 14) ⌝ }
     ensures { λ r. ⌜ r ≡ judgedOf (judge (expectOf e) (map (read (now (line .entry))) (getD layouts kind kept))) ⌝ }
 {
@@ -173,4 +174,15 @@ pub fn judge_fields(line: &[u8], kind: usize, e: Expect) -> Judged
         i += 1;
     }
     Judged::Good
+}
+
+// The fields from column 11 on of a line of a kind. Hardly a record has a fault, so the kinds that come often are first tested as a whole.
+pub fn judge_fields(line: &[u8], kind: usize, e: Expect) -> Judged
+    requires { ⌜ (80 ≤ length (now line)) × (kind < 14) ⌝ }
+    ensures { λ r. ⌜ r ≡ judgedOf (judge (expectOf e) (map (read (now (line .entry))) (getD layouts kind kept))) ⌝ }
+{
+    if is_good(line, kind, e) {
+        return Judged::Good;
+    }
+    judge_rows(line, kind, e)
 }
