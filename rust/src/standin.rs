@@ -1,6 +1,6 @@
 //! The five symbols of `include/shelf.h` over the plain implementation, so
-//! that everything above the library can be built before its archive is
-//! there. It proves nothing and goes away with the feature `standin`.
+//! that everything above the library can be built and tested where its
+//! archive cannot be linked. It proves nothing.
 
 use crate::calls::Calls;
 use crate::plain::Plain;

@@ -1,0 +1,6 @@
+-- Why the calls keep their promises.
+pub mod Places  -- how large the record and the column of a fault are
+pub mod AnswerLaws  -- words put into lent memory
+pub mod WordLaws  -- values as words
+pub mod GivenLaws  -- words taken for values
+pub mod Determined  -- two results that one promise allows are equal
