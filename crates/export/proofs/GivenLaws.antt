@@ -43,7 +43,7 @@ use Rattle.kinds.specs.declared.Record.the-variants as R
 use Rattle.kinds.specs.declared.Written.{Written}
 use Rattle.kinds.specs.Values.{kindNumber, sequenceValue, meaningOf, writtenOf}
 use Rattle.export.specs.Answers.{Small, faultWords, answered, touched}
-use Rattle.export.specs.Given.{wordAt, numberOf, characterOf, digitOf, metresOf, isLeast, heightOf, sequenceOf, characterAt, numberAt, twoAt, threeAt, fourAt, mediaAt, projectGiven, occupationGiven, measurementGiven, pointGiven, heightsGiven, recordsGiven, recordGiven, given, sequenceGiven, writtenWords, Noted}
+use Rattle.export.specs.Given.{wordAt, heldOr, numberOf, characterOf, digitOf, millimetresOf, isLeast, heightOf, sequenceOf, characterAt, numberAt, twoAt, threeAt, fourAt, mediaAt, projectGiven, occupationGiven, measurementGiven, pointGiven, heightsGiven, recordsGiven, recordGiven, given, sequenceGiven, writtenWords, Noted}
 use Rattle.export.proofs.AnswerLaws.{long-answer, long-touched}
 use Rattle.export.proofs.Places.{written-near}
 
@@ -80,8 +80,8 @@ minus-is : (z : ℤ) (n : ℕ) → splitLongOf z ≡ SplitLong.Minus n → (m : 
 minus-is (pos m) n e = let y : _≡_ {A = ℕ} 0 1 = cc in clash y
 minus-is (negsuc m) n e = let q : suc m ≡ n = cc in (m, refl, q)
 
-depth-of : (z : ℤ) (n m : ℕ) → z ≡ negsuc m → suc m ≡ n → n ≤ 9_999_999 → signed true n ≡ metresOf z
-unfolding metresOf signed
+depth-of : (z : ℤ) (n m : ℕ) → z ≡ negsuc m → suc m ≡ n → n ≤ 9_999_999 → signed true n ≡ millimetresOf z
+unfolding millimetresOf signed
 depth-of z n m p q h = rw (p, ← q, of≤ {m = suc m} {n = 9_999_999} (omega arith))
 
 least-of : (z : ℤ) (n m : ℕ) → z ≡ negsuc m → suc m ≡ n → eqb n 9_223_372_036_854_775_808 ≡ isLeast z
@@ -95,55 +95,31 @@ module _ (z : ℤ) (s : SplitLong) (e : s ≡ splitLongOf z) (n : ℕ) where
   below-0 : s ≡ SplitLong.Minus n → (m : ℕ) × (z ≡ negsuc m) × (suc m ≡ n)
   below-0 p = minus-is z n (sym e ∙ p)
 
-  pub number-fits : s ≡ SplitLong.Plus n → n ≤ 4_294_967_294 → n ≡ numberOf z
-  unfolding numberOf
-  number-fits p h = rw (at-least-0 p, of≤ {m = n} {n = 4_294_967_294} h)
+  pub held-fits : (most other : ℕ) → s ≡ SplitLong.Plus n → n ≤ most → n ≡ heldOr most other z
+  unfolding heldOr
+  held-fits most other p h = rw (at-least-0 p, of≤ {m = n} {n = most} h)
 
-  pub number-large : s ≡ SplitLong.Plus n → 4_294_967_294 < n → 4_294_967_295 ≡ numberOf z
-  unfolding numberOf
-  number-large p h = rw (at-least-0 p, of> {m = n} {n = 4_294_967_294} h)
+  pub held-large : (most other : ℕ) → s ≡ SplitLong.Plus n → most < n → other ≡ heldOr most other z
+  unfolding heldOr
+  held-large most other p h = rw (at-least-0 p, of> {m = n} {n = most} h)
 
-  pub number-below : s ≡ SplitLong.Minus n → 4_294_967_295 ≡ numberOf z
-  unfolding numberOf
-  number-below p = rw (below-0 p .1)
+  pub held-below : (most other : ℕ) → s ≡ SplitLong.Minus n → other ≡ heldOr most other z
+  unfolding heldOr
+  held-below most other p = rw (below-0 p .1)
 
-  pub character-fits : s ≡ SplitLong.Plus n → n ≤ 255 → n ≡ characterOf z
-  unfolding characterOf
-  character-fits p h = rw (at-least-0 p, of≤ {m = n} {n = 255} h)
+  pub millimetres-fit : s ≡ SplitLong.Plus n → n ≤ 9_999_999 → (r : ℤ) → r ≡ signed false n → r ≡ millimetresOf z
+  unfolding millimetresOf signed
+  millimetres-fit p h r q = q ∙ rw (at-least-0 p, of≤ {m = n} {n = 9_999_999} h)
 
-  pub character-large : s ≡ SplitLong.Plus n → 255 < n → 0 ≡ characterOf z
-  unfolding characterOf
-  character-large p h = rw (at-least-0 p, of> {m = n} {n = 255} h)
+  pub millimetres-large : s ≡ SplitLong.Plus n → 9_999_999 < n → pos 10_000_000 ≡ millimetresOf z
+  unfolding millimetresOf
+  millimetres-large p h = rw (at-least-0 p, of> {m = n} {n = 9_999_999} h)
 
-  pub character-below : s ≡ SplitLong.Minus n → 0 ≡ characterOf z
-  unfolding characterOf
-  character-below p = rw (below-0 p .1)
-
-  pub digit-fits : s ≡ SplitLong.Plus n → n ≤ 9 → n ≡ digitOf z
-  unfolding digitOf
-  digit-fits p h = rw (at-least-0 p, of≤ {m = n} {n = 9} h)
-
-  pub digit-large : s ≡ SplitLong.Plus n → 9 < n → 10 ≡ digitOf z
-  unfolding digitOf
-  digit-large p h = rw (at-least-0 p, of> {m = n} {n = 9} h)
-
-  pub digit-below : s ≡ SplitLong.Minus n → 10 ≡ digitOf z
-  unfolding digitOf
-  digit-below p = rw (below-0 p .1)
-
-  pub metres-fit : s ≡ SplitLong.Plus n → n ≤ 9_999_999 → (r : ℤ) → r ≡ signed false n → r ≡ metresOf z
-  unfolding metresOf signed
-  metres-fit p h r q = q ∙ rw (at-least-0 p, of≤ {m = n} {n = 9_999_999} h)
-
-  pub metres-large : s ≡ SplitLong.Plus n → 9_999_999 < n → pos 10_000_000 ≡ metresOf z
-  unfolding metresOf
-  metres-large p h = rw (at-least-0 p, of> {m = n} {n = 9_999_999} h)
-
-  pub depths-fit : s ≡ SplitLong.Minus n → n ≤ 9_999_999 → (r : ℤ) → r ≡ signed true n → r ≡ metresOf z
+  pub depths-fit : s ≡ SplitLong.Minus n → n ≤ 9_999_999 → (r : ℤ) → r ≡ signed true n → r ≡ millimetresOf z
   depths-fit p h r q = let b = below-0 p in q ∙ depth-of z n (b .0) (b .1) (b .2) h
 
-  pub depths-large : s ≡ SplitLong.Minus n → 9_999_999 < n → pos 10_000_000 ≡ metresOf z
-  unfolding metresOf
+  pub depths-large : s ≡ SplitLong.Minus n → 9_999_999 < n → pos 10_000_000 ≡ millimetresOf z
+  unfolding millimetresOf
   depths-large p h = let b = below-0 p in rw (b .1, of> {m = suc (b .0)} {n = 9_999_999} (omega (arith, b .2)))
 
   pub not-least : s ≡ SplitLong.Plus n → false ≡ isLeast z
@@ -154,11 +130,11 @@ module _ (z : ℤ) (s : SplitLong) (e : s ≡ splitLongOf z) (n : ℕ) where
   maybe-least p = let b = below-0 p in least-of z n (b .0) (b .1) (b .2)
 
   pub sequence-fits : s ≡ SplitLong.Plus n → n ≤ 4_294_967_294 → Sequence.Number n ≡ sequenceOf z
-  unfolding sequenceOf numberOf
+  unfolding sequenceOf heldOr
   sequence-fits p h = rw (at-least-0 p, of≤ {m = n} {n = 4_294_967_294} h)
 
   pub sequence-large : s ≡ SplitLong.Plus n → 4_294_967_294 < n → Sequence.Number 4_294_967_295 ≡ sequenceOf z
-  unfolding sequenceOf numberOf
+  unfolding sequenceOf heldOr
   sequence-large p h = rw (at-least-0 p, of> {m = n} {n = 4_294_967_294} h)
 
   pub sequence-none : s ≡ SplitLong.Minus n → n ≡ 1 → Sequence.Missing ≡ sequenceOf z
@@ -174,7 +150,7 @@ module _ (z : ℤ) (t : Bool) (e : t ≡ isLeast z) where
   unfolding heightOf
   height-none h = rw (sym e ∙ h)
 
-  pub height-some : t ≡ false → (m : ℤ) → m ≡ metresOf z → Height.Mm m ≡ heightOf z
+  pub height-some : t ≡ false → (m : ℤ) → m ≡ millimetresOf z → Height.Mm m ≡ heightOf z
   unfolding heightOf
   height-some h m q = rw (sym e ∙ h, q)
 
@@ -214,7 +190,7 @@ pub occupation-given : (ws : List ℤ) (a : ℕ) (m : Media) (s : Three) (b : �
 unfolding occupationGiven
 occupation-given ws a m s b d r h0 h1 h2 h3 h4 e = e ∙ rw (h0, h1, h2, h3, h4)
 
-pub measurement-given : (ws : List ℤ) (a : ℕ) (b : ℕ) (d : ℕ) (z : ℤ) (r : Measurement) → a ≡ numberAt ws 2 → b ≡ numberAt ws 3 → d ≡ numberAt ws 4 → z ≡ metresOf (wordAt ws 5)
+pub measurement-given : (ws : List ℤ) (a : ℕ) (b : ℕ) (d : ℕ) (z : ℤ) (r : Measurement) → a ≡ numberAt ws 2 → b ≡ numberAt ws 3 → d ≡ numberAt ws 4 → z ≡ millimetresOf (wordAt ws 5)
     → r ≡ record { station = a; date = b; time = d; height = z } → r ≡ measurementGiven ws
 unfolding measurementGiven
 measurement-given ws a b d z r h0 h1 h2 h3 e = e ∙ rw (h0, h1, h2, h3)

@@ -3,4 +3,5 @@ pub mod Places  -- how large the record and the column of a fault are
 pub mod AnswerLaws  -- words put into lent memory
 pub mod WordLaws  -- values as words
 pub mod GivenLaws  -- words taken for values
+pub mod Unheld  -- what a bad word is taken for is refused
 pub mod Determined  -- two results that one promise allows are equal

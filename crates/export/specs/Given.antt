@@ -31,25 +31,25 @@ use Rattle.export.specs.Answers.{faultWords, Small}
 unfoldable pub wordAt : List ℤ → ℕ → ℤ
 wordAt ws i = getD ws i (pos 9_223_372_036_854_775_807)
 
--- a number; below 0 or above 4,294,967,294 it is none
-unfoldable pub numberOf : ℤ → ℕ
-numberOf (pos n) = cond (n ≤? 4_294_967_294) n 4_294_967_295
-numberOf (negsuc n) = 4_294_967_295
+-- from 0 to the most that is taken; else another, which is none
+unfoldable pub heldOr : (most other : ℕ) → ℤ → ℕ
+heldOr most other (pos n) = cond (n ≤? most) n other
+heldOr most other (negsuc n) = other
 
--- a character; 0 is none
-unfoldable pub characterOf : ℤ → ℕ
-characterOf (pos n) = cond (n ≤? 255) n 0
-characterOf (negsuc n) = 0
+-- a number, a character, a digit
+abbrev pub numberOf : ℤ → ℕ
+numberOf z = heldOr 4_294_967_294 4_294_967_295 z
 
--- a digit; 10 is none
-unfoldable pub digitOf : ℤ → ℕ
-digitOf (pos n) = cond (n ≤? 9) n 10
-digitOf (negsuc n) = 10
+abbrev pub characterOf : ℤ → ℕ
+characterOf z = heldOr 255 0 z
+
+abbrev pub digitOf : ℤ → ℕ
+digitOf z = heldOr 9 10 z
 
 -- millimetres; 10,000,000 is no height
-unfoldable pub metresOf : ℤ → ℤ
-metresOf (pos n) = cond (n ≤? 9_999_999) (pos n) (pos 10_000_000)
-metresOf (negsuc n) = cond (suc n ≤? 9_999_999) (negsuc n) (pos 10_000_000)
+unfoldable pub millimetresOf : ℤ → ℤ
+millimetresOf (pos n) = cond (n ≤? 9_999_999) (pos n) (pos 10_000_000)
+millimetresOf (negsuc n) = cond (suc n ≤? 9_999_999) (negsuc n) (pos 10_000_000)
 
 -- the least word is a missing height
 unfoldable pub isLeast : ℤ → Bool
@@ -57,7 +57,7 @@ isLeast (pos n) = false
 isLeast (negsuc n) = suc n =? 9_223_372_036_854_775_808
 
 unfoldable pub heightOf : ℤ → Height
-heightOf z = cond (isLeast z) Height.Missing (Height.Mm (metresOf z))
+heightOf z = cond (isLeast z) Height.Missing (Height.Mm (millimetresOf z))
 
 -- -1 is a missing sequence number
 unfoldable pub sequenceOf : ℤ → Sequence
@@ -97,7 +97,7 @@ unfoldable pub occupationGiven : List ℤ → Occupation
 occupationGiven ws = record { station = numberAt ws 2; media = mediaAt ws 3; initials = threeAt ws 11; instrument = numberAt ws 14; antenna = numberAt ws 15 }
 
 unfoldable pub measurementGiven : List ℤ → Measurement
-measurementGiven ws = record { station = numberAt ws 2; date = numberAt ws 3; time = numberAt ws 4; height = metresOf (wordAt ws 5) }
+measurementGiven ws = record { station = numberAt ws 2; date = numberAt ws 3; time = numberAt ws 4; height = millimetresOf (wordAt ws 5) }
 
 unfoldable pub pointGiven : List ℤ → Point
 pointGiven ws = record { station = numberAt ws 2; latitude = wordAt ws 3; longitude = wordAt ws 4; state = twoAt ws 5 }

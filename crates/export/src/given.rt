@@ -27,7 +27,7 @@ ghost use mathlib.Core.Path.{_≡_};
 ghost use Prim.Native.Nat.{_<_, _^_, _+_};
 ghost use Rattle.rules.specs.Items.{signed};
 ghost use Rattle.columns.specs.Leaves.{splitLongOf};
-ghost use Rattle.export.specs.Given.{wordAt, digitOf, metresOf, isLeast, heightOf, characterAt, numberAt, twoAt, threeAt, fourAt, mediaAt, projectGiven, occupationGiven, measurementGiven, pointGiven, heightsGiven, recordGiven, given, sequenceGiven};
+ghost use Rattle.export.specs.Given.{wordAt, digitOf, millimetresOf, isLeast, heightOf, characterAt, numberAt, twoAt, threeAt, fourAt, mediaAt, projectGiven, occupationGiven, measurementGiven, pointGiven, heightsGiven, recordGiven, given, sequenceGiven};
 
 // A word, and the largest one where it is lacking.
 fn word_at(values: &[i64], i: usize) -> i64
@@ -78,27 +78,27 @@ fn digit_at(values: &[i64], i: usize) -> u8
     }
 }
 
-fn sign_metres(negative: bool, v: u32) -> i32
+fn sign_millimetres(negative: bool, v: u32) -> i32
     requires { ⌜ v < 2 ^ 31 ⌝ }
     ensures { λ r. ⌜ r ≡ signed negative v ⌝ }
 {
     if negative { -(v as i32) } else { v as i32 }
 }
 
-fn metres_at(values: &[i64], i: usize) -> i32
-    ensures { λ r. ⌜ r ≡ metresOf (wordAt (now (values .entry)) i) ⌝ }
+fn millimetres_at(values: &[i64], i: usize) -> i32
+    ensures { λ r. ⌜ r ≡ millimetresOf (wordAt (now (values .entry)) i) ⌝ }
 {
     match split_at(values, i) {
         SplitLong::Plus(n) => {
             if n <= 9_999_999 {
-                sign_metres(false, n as u32)
+                sign_millimetres(false, n as u32)
             } else {
                 10_000_000
             }
         }
         SplitLong::Minus(n) => {
             if n <= 9_999_999 {
-                sign_metres(true, n as u32)
+                sign_millimetres(true, n as u32)
             } else {
                 10_000_000
             }
@@ -122,7 +122,7 @@ fn height_at(values: &[i64], i: usize) -> Height
     if is_missing(values, i) {
         return Height::Missing;
     }
-    Height::Mm(metres_at(values, i))
+    Height::Mm(millimetres_at(values, i))
 }
 
 pub(crate) fn give_sequence(values: &[i64]) -> Sequence
@@ -225,7 +225,7 @@ fn give_measurement(values: &[i64]) -> Measurement
         number_at(values, 2),
         number_at(values, 3),
         number_at(values, 4),
-        metres_at(values, 5),
+        millimetres_at(values, 5),
     )
 }
 

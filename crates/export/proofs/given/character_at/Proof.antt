@@ -1,4 +1,4 @@
-use Rattle.export.proofs.GivenLaws.{character-fits, character-large, character-below}
+use Rattle.export.proofs.GivenLaws.{held-fits, held-large, held-below}
 use borrow.Author.Needs.{needs}
 use Rattle.export.proofs.given.character_at.Statement.{statement}
 use Rattle.export.proofs.given.character_at.Tie as tie
@@ -24,15 +24,15 @@ enum-known-n-2 c = search needs
 
 -- src/given.rt:63:1
 returns : tie.Need-returns
-returns c = search (character-fits, needs)
+returns c = search (held-fits, needs)
 
 -- src/given.rt:63:1
 returns-2 : tie.Need-returns-2
-returns-2 c = search (character-large, needs)
+returns-2 c = search (held-large, needs)
 
 -- src/given.rt:63:1
 returns-3 : tie.Need-returns-3
-returns-3 c = search (character-below, needs)
+returns-3 c = search (held-below, needs)
 
 pub character-at-spec : {M : Type 1} → statement M
 character-at-spec =

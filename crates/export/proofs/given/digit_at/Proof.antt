@@ -1,4 +1,4 @@
-use Rattle.export.proofs.GivenLaws.{digit-fits, digit-large, digit-below}
+use Rattle.export.proofs.GivenLaws.{held-fits, held-large, held-below}
 use borrow.Author.Needs.{needs}
 use Rattle.export.proofs.given.digit_at.Statement.{statement}
 use Rattle.export.proofs.given.digit_at.Tie as tie
@@ -24,15 +24,15 @@ enum-known-n-2 c = search needs
 
 -- src/given.rt:78:1
 returns : tie.Need-returns
-returns c = search (digit-fits, needs)
+returns c = search (held-fits, needs)
 
 -- src/given.rt:78:1
 returns-2 : tie.Need-returns-2
-returns-2 c = search (digit-large, needs)
+returns-2 c = search (held-large, needs)
 
 -- src/given.rt:78:1
 returns-3 : tie.Need-returns-3
-returns-3 c = search (digit-below, needs)
+returns-3 c = search (held-below, needs)
 
 pub digit-at-spec : {M : Type 1} → statement M
 digit-at-spec =

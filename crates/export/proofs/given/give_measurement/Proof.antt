@@ -4,7 +4,7 @@ use Rattle.export.proofs.given.give_measurement.Statement.{statement}
 use Rattle.export.proofs.given.give_measurement.Tie as tie
 use Rattle.export.proofs.given.give_measurement.Reads as reads
 use Rattle.export.proofs.given.give_measurement.Lts as lts
-use Rattle.export.proofs.given.metres_at.Reads as metres-at-reads
+use Rattle.export.proofs.given.millimetres_at.Reads as millimetres-at-reads
 use Rattle.export.proofs.given.number_at.Reads as number-at-reads
 use Rattle.kinds.proofs.Measurement.new.Reads as new-reads
 
@@ -21,8 +21,8 @@ number-at-requires-3 : tie.Need-number-at-requires-3
 number-at-requires-3 c κs = search needs
 
 -- src/given.rt:240:9
-metres-at-requires : tie.Need-metres-at-requires
-metres-at-requires c κs = search needs
+millimetres-at-requires : tie.Need-millimetres-at-requires
+millimetres-at-requires c κs = search needs
 
 -- src/given.rt:236:5
 new-requires : tie.Need-new-requires
@@ -39,6 +39,6 @@ give-measurement-spec =
     number-at-requires
     number-at-requires-2
     number-at-requires-3
-    metres-at-requires
+    millimetres-at-requires
     new-requires
     returns)
