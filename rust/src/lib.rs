@@ -11,6 +11,7 @@ pub mod library;
 pub mod plain;
 pub mod published;
 pub mod sample;
+pub mod sha256;
 pub mod specimens;
 #[cfg(feature = "standin")]
 mod standin;

@@ -1,10 +1,13 @@
 //! `shelf check`
 
-use crate::desk::Desk;
+use crate::desk::{house, Desk, Ran};
 use shelf::{generate, sample};
 use std::ffi::OsStr;
-use std::fs::File;
+use std::fs::{self, File};
+use std::io::Write;
 use std::os::unix::ffi::OsStrExt;
+use std::os::unix::fs::symlink;
+use std::process::Stdio;
 
 #[test]
 fn an_accepted_file_and_its_counts() {
@@ -160,4 +163,105 @@ fn names_of_any_bytes_can_be_judged_and_are_shown_on_one_line() {
     assert!(ran
         .out
         .starts_with("a\\tb\\nc\\\\d\\xFF.b: refused, fault 8"));
+}
+
+/// Runs the command with something on its standard input.
+fn fed(desk: &Desk, words: &[&str], input: &[u8]) -> Ran {
+    let mut command = desk.command(words);
+    command.stdin(Stdio::piped()).stdout(Stdio::piped());
+    let mut child = command.stderr(Stdio::piped()).spawn().unwrap();
+    child.stdin.take().unwrap().write_all(input).unwrap();
+    Ran::of(child.wait_with_output().unwrap())
+}
+
+#[test]
+fn a_dash_is_standard_input_and_output() {
+    let desk = Desk::new("dash");
+    let file = sample::file();
+    let ran = fed(&desk, &["check", "-"], &file).ended(0);
+    assert!(ran.out.starts_with("-: accepted, 24 records"));
+    let ran = fed(&desk, &["sheet", "-"], &file).ended(0);
+    assert!(ran.out.starts_with("FILE\t24\t0\t0\t0\n"));
+    let ran = fed(&desk, &["show", "-", "17"], &file).ended(0);
+    assert!(ran.out.starts_with("-, record 17: *80* control point\n"));
+    let ran = fed(&desk, &["rewrite", "-", "-"], &file).ended(0);
+    assert_eq!(ran.out.as_bytes(), house(&file));
+    assert_eq!(ran.err, "");
+    let ran = fed(&desk, &["rewrite", "-", "-"], &file[81..]).ended(1);
+    assert_eq!(ran.out, "");
+    assert!(ran
+        .err
+        .starts_with("-: refused, fault 7, record 1, column 7\n"));
+    // A file of that name is asked for by its folder.
+    desk.put("-", &file);
+    assert!(desk
+        .run(&["check", "./-"])
+        .ended(0)
+        .out
+        .starts_with("./-: accepted"));
+    assert_eq!(desk.files("."), ["-"]);
+}
+
+#[test]
+fn folders_and_lists_of_names() {
+    let desk = Desk::new("lists");
+    desk.put("folder/a/good.b", &sample::file());
+    desk.put("folder/bad.b", b"bad");
+    desk.put("two\nlines", &sample::file());
+    let ran = desk.run(&["check", "folder"]).ended(1);
+    assert!(ran.out.starts_with("folder/a/good.b: accepted"));
+    assert!(ran.out.contains("\nfolder/bad.b: refused, fault 3"));
+    desk.put("list", b"folder/a/good.b\n\nfolder\nnone.b\n");
+    let ran = desk.run(&["check", "--files-from", "list"]).ended(2);
+    assert_eq!(ran.out.matches(": accepted").count(), 2);
+    assert_eq!(ran.err, "shelf: none.b: there is no such file or folder\n");
+    let words = ["check", "--files-from=-", "-0"];
+    let ran = fed(&desk, &words, b"two\nlines\0folder/a/good.b").ended(0);
+    assert!(ran.out.starts_with("two\\nlines: accepted"));
+    assert_eq!(ran.out.lines().count(), 2);
+    // What is not judged is named.
+    symlink("bad.b", desk.path("folder/link")).unwrap();
+    fs::remove_file(desk.path("folder/bad.b")).unwrap();
+    let ran = desk.run(&["check", "folder"]).ended(1);
+    assert_eq!(
+        ran.err,
+        "shelf: folder/link: not judged: a symbolic link, not followed\n"
+    );
+    desk.run(&["check", "--files-from", "nowhere"]).ended(2);
+}
+
+#[test]
+fn quiet_says_only_what_was_refused() {
+    let desk = Desk::new("check-quiet");
+    desk.put("good.b", &sample::file());
+    desk.put("bad.b", b"bad");
+    let ran = desk.run(&["check", "--quiet", "good.b"]).ended(0);
+    assert_eq!((&ran.out[..], &ran.err[..]), ("", ""));
+    let ran = desk.run(&["check", "--quiet", "good.b", "bad.b"]).ended(1);
+    assert!(ran.out.starts_with("bad.b: refused, fault 3"));
+}
+
+/// The shape that the README documents.
+#[test]
+fn one_json_object_for_each_file() {
+    let desk = Desk::new("json");
+    desk.put("good.b", &sample::file());
+    desk.put("b\"ad.b", &sample::with(&sample::file(), 18, 24, " "));
+    let ran = desk
+        .run(&["check", "--json", "good.b", "b\"ad.b", "none.b"])
+        .ended(2);
+    let kinds = "\"AA\":2,\"10\":1,\"11\":1,\"12\":1,\"25\":2,\"26\":1,\"27\":5,\"70\":2,\
+                 \"72\":2,\"80\":2,\"86\":2,\"91\":1,\"92\":1,\"93\":1";
+    let none = "\"AA\":0,\"10\":0,\"11\":0,\"12\":0,\"25\":0,\"26\":0,\"27\":0,\"70\":0,\
+                \"72\":0,\"80\":0,\"86\":0,\"91\":0,\"92\":0,\"93\":0";
+    let expected = format!(
+        "{{\"name\":\"good.b\",\"number\":0,\"record\":0,\"column\":0,\"records\":24,\
+         \"counts\":{{{kinds}}},\"text\":\"accepted\"}}\n\
+         {{\"name\":\"b\\\"ad.b\",\"number\":10,\"record\":18,\"column\":24,\"records\":24,\
+         \"counts\":{{{none}}},\"text\":\"a field well formed that disagrees with an earlier \
+         one: orthometric height code in column 24 must be blank exactly when its height is \
+         missing\"}}\n\
+         {{\"name\":\"none.b\",\"error\":\"there is no such file or folder\"}}\n"
+    );
+    assert_eq!(ran.out, expected);
 }

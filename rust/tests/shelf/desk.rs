@@ -3,17 +3,27 @@
 use shelf::plain;
 use std::ffi::OsStr;
 use std::fs;
-use std::io::ErrorKind;
-use std::os::unix::fs::{MetadataExt, PermissionsExt};
-use std::os::unix::process::CommandExt;
+use std::os::unix::fs::PermissionsExt;
+use std::os::unix::process::{CommandExt, ExitStatusExt};
 use std::path::{Path, PathBuf};
 use std::process::{Command, Output, Stdio};
-use std::thread::sleep;
-use std::time::Duration;
 use std::{env, process};
 
-/// A user without rights; root would be let through everywhere.
-const NOBODY: u32 = 65_534;
+/// What stands for a handler where the system does as it always does.
+const DEFAULT: usize = 0;
+/// The signals that a program can be started with ignored.
+const SIGNALS: std::ops::RangeInclusive<i32> = 1..=31;
+/// The rights that a new file has not.
+const MASK: u32 = 0o022;
+/// Asks that a program run by root has no more rights than its owner.
+const SET_SECURE_BITS: i32 = 28;
+const NO_ROOT: u64 = 1;
+
+extern "C" {
+    fn signal(number: i32, handler: usize) -> usize;
+    fn umask(mask: u32) -> u32;
+    fn prctl(option: i32, ...) -> i32;
+}
 
 /// A folder of the test's own, removed at its end.
 pub struct Desk {
@@ -22,6 +32,7 @@ pub struct Desk {
 
 /// What a run of the command ended with.
 pub struct Ran {
+    /// Below zero the signal that ended it.
     pub status: i32,
     pub out: String,
     pub err: String,
@@ -29,8 +40,11 @@ pub struct Ran {
 
 impl Desk {
     pub fn new(name: &str) -> Desk {
+        // Every test sets the same, whatever the caller of the tests had.
+        unsafe { umask(MASK) };
         let folder = env::temp_dir().join(format!("shelf-{}-{name}", process::id()));
         fs::create_dir_all(&folder).unwrap();
+        let folder = folder.canonicalize().unwrap();
         Desk { folder }
     }
 
@@ -76,9 +90,29 @@ impl Desk {
 
     /// The command, ready to be run in the folder.
     pub fn command<W: AsRef<OsStr>>(&self, words: &[W]) -> Command {
-        let mut command = Command::new(env!("CARGO_BIN_EXE_shelf"));
-        command.args(words).current_dir(&self.folder);
-        command.stdin(Stdio::null());
+        let mut command = self.program(env!("CARGO_BIN_EXE_shelf"));
+        command.args(words);
+        command
+    }
+
+    /// A program in the folder, with nothing of what the caller of the tests
+    /// did with signals, environment or standard input.
+    pub fn program(&self, program: &str) -> Command {
+        let mut command = Command::new(program);
+        command.current_dir(&self.folder).stdin(Stdio::null());
+        command
+            .env_clear()
+            .envs(env::var_os("PATH").map(|path| ("PATH", path)));
+        // Setting signals and a mask is allowed between fork and exec.
+        unsafe {
+            command.pre_exec(|| {
+                for number in SIGNALS {
+                    signal(number, DEFAULT);
+                }
+                umask(MASK);
+                Ok(())
+            });
+        }
         command
     }
 
@@ -86,27 +120,18 @@ impl Desk {
         Ran::of(self.command(words).output().unwrap())
     }
 
-    /// Runs the command as a user without rights.
-    pub fn run_as_nobody(&self, words: &[&str]) -> Ran {
-        let program = self.path("shelf");
-        fs::copy(env!("CARGO_BIN_EXE_shelf"), &program).unwrap();
-        self.mode("shelf", 0o755);
-        self.mode(".", 0o755);
-        let mut command = Command::new(program);
-        command.args(words).current_dir(&self.folder);
-        let is_root = fs::metadata("/proc/self").is_ok_and(|own| own.uid() == 0);
-        if is_root {
-            command.uid(NOBODY).gid(NOBODY);
+    /// Runs the command with no more rights than its owner has: root would be
+    /// let through everywhere.
+    pub fn run_without_rights(&self, words: &[&str]) -> Ran {
+        let mut command = self.command(words);
+        unsafe {
+            command.pre_exec(|| {
+                // Whoever may not ask for this has no such rights to lose.
+                prctl(SET_SECURE_BITS, NO_ROOT, 0u64, 0u64, 0u64);
+                Ok(())
+            });
         }
-        loop {
-            match command.output() {
-                // Another test's new process may still hold the copy open.
-                Err(error) if error.kind() == ErrorKind::ExecutableFileBusy => {
-                    sleep(Duration::from_millis(5));
-                }
-                output => return Ran::of(output.unwrap()),
-            }
-        }
+        Ran::of(command.output().unwrap())
     }
 
     pub fn mode(&self, name: &str, mode: u32) {
@@ -119,9 +144,21 @@ impl Desk {
             "shelf() {{ {} \"$@\"; }}; {line}",
             env!("CARGO_BIN_EXE_shelf")
         );
-        let mut command = Command::new("sh");
-        command.arg("-c").arg(line).current_dir(&self.folder);
+        let mut command = self.program("sh");
+        command.arg("-c").arg(line);
         Ran::of(command.output().unwrap())
+    }
+
+    /// Runs a line of the shell where something is mounted for it alone. It
+    /// needs a name space of its own, which not every machine gives.
+    pub fn mounted(&self, mount: &str, line: &str) -> Option<Ran> {
+        let given = self.program("unshare").args(["-rm", "true"]).output();
+        if !given.is_ok_and(|given| given.status.success()) {
+            eprintln!("nothing can be mounted here: not tried");
+            return None;
+        }
+        let line = line.replace("shelf ", concat!(env!("CARGO_BIN_EXE_shelf"), " "));
+        Some(self.shell(&format!("unshare -rm sh -c '{mount} && {line}'")))
     }
 }
 
@@ -132,9 +169,10 @@ impl Drop for Desk {
 }
 
 impl Ran {
-    fn of(output: Output) -> Ran {
+    pub fn of(output: Output) -> Ran {
+        let status = output.status;
         Ran {
-            status: output.status.code().unwrap_or(-1),
+            status: status.code().unwrap_or_else(|| -status.signal().unwrap()),
             out: String::from_utf8(output.stdout).unwrap(),
             err: String::from_utf8(output.stderr).unwrap(),
         }

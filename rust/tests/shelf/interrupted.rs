@@ -1,45 +1,34 @@
-//! A move that is stopped half way.
+//! A move that is asked to stop.
 
 use crate::desk::{house, Desk};
-use shelf::generate;
-use std::process::{Child, Command, Stdio};
-use std::thread::sleep;
-use std::time::Duration;
+use crate::held::{send, Held, HANG_UP, INTERRUPT, TERMINATE};
+use shelf::{generate, sample};
+use std::os::unix::process::CommandExt;
+use std::process::{Command, Stdio};
 
-const FILES: usize = 600;
+const FILES: usize = 12;
 
 const MOVE: [&str; 5] = ["move", "old", "new", "--ledger", "ledger.tsv"];
 
-/// Starts a move of many files and waits until some are there.
-fn started(desk: &Desk, mut command: Command) -> Child {
+/// What stands for a handler where a signal is ignored.
+const IGNORED: usize = 1;
+
+extern "C" {
+    fn signal(number: i32, handler: usize) -> usize;
+}
+
+fn deposited(name: &str) -> Desk {
+    let desk = Desk::new(name);
     for number in 0..FILES {
-        let file = generate::accepted(number as u64, 11 + number % 30);
-        desk.put(format!("old/{:02}/{number:04}.b", number % 20), &file);
+        let file = generate::accepted(number as u64, 11 + number);
+        desk.put(format!("old/{}/{number:02}.b", number / 4), &file);
     }
-    command.stdout(Stdio::null()).stderr(Stdio::piped());
-    let child = command.spawn().unwrap();
-    while named(desk).len() < 20 {
-        sleep(Duration::from_millis(1));
-    }
-    child
-}
-
-fn send(child: &Child, signal: &str) {
-    let id = child.id().to_string();
-    let sent = Command::new("kill").args([signal, &id]).status();
-    assert!(sent.unwrap().success());
-}
-
-/// The files below the new folder that have their names; drafts have others.
-fn named(desk: &Desk) -> Vec<String> {
-    let mut names = desk.files("new");
-    names.retain(|name| name.ends_with(".b"));
-    names
+    desk
 }
 
 /// Every file that has its name is whole and in house style. Gives how many.
 fn whole(desk: &Desk) -> usize {
-    let named = named(desk);
+    let named = desk.files("new");
     for name in &named {
         let before = desk.get(format!("old/{name}"));
         assert!(desk.get(format!("new/{name}")) == house(&before), "{name}");
@@ -47,67 +36,115 @@ fn whole(desk: &Desk) -> usize {
     named.len()
 }
 
-/// The next run takes up where this one stopped.
-fn taken_up(desk: &Desk, ledger: &str) {
-    let words = ["move", "old", "new", "--ledger", ledger];
-    let ran = desk.run(&words).ended(0);
-    let said = format!("{FILES} files below old: {FILES} accepted, 0 refused");
-    assert!(ran.out.starts_with(&said));
-    assert_eq!(whole(desk), FILES);
-}
-
+/// A file gets its name by its only link, so this is after the third file.
 #[test]
 fn asked_to_stop_it_tidies_up_and_names_what_was_not_reached() {
-    for signal in ["-INT", "-TERM"] {
-        let desk = Desk::new(&format!("stop{signal}"));
-        let child = started(&desk, desk.command(&MOVE));
-        send(&child, signal);
-        let output = child.wait_with_output().unwrap();
-        assert_eq!(output.status.code(), Some(2));
-        let said = String::from_utf8(output.stderr).unwrap();
-        assert!(said.contains("interrupted"), "{said}");
-        let done = whole(&desk);
-        assert!((20..FILES).contains(&done), "{done}");
+    for signal in [INTERRUPT, TERMINATE, HANG_UP] {
+        let desk = deposited(&format!("stop-{signal}"));
+        let held = Held::after(desk.command(&MOVE), "linkat", "3");
+        held.send(signal);
+        let ran = held.on().ended(2);
+        assert_eq!(
+            ran.err,
+            "shelf: interrupted: 9 files were not reached: the ledger names them\n\
+             shelf: not every file could be judged and moved: see the ledger\n"
+        );
+        // No line for each.
+        assert_eq!(
+            ran.out,
+            "12 files below old: 3 accepted, 0 refused, 0 not judged, 9 failed\n"
+        );
         // No draft is left.
-        assert_eq!(desk.files("new").len(), done);
+        assert_eq!(whole(&desk), 3);
         let ledger = String::from_utf8(desk.get("ledger.tsv")).unwrap();
         assert_eq!(ledger.lines().count(), 1 + FILES + 4);
-        assert_eq!(ledger.matches("\taccepted\n").count(), done);
-        let left = ledger.matches("\tfailed: not reached\n").count();
-        assert_eq!(left, FILES - done);
-        taken_up(&desk, "second.tsv");
+        assert_eq!(ledger.matches("\taccepted\t").count(), 3);
+        assert_eq!(ledger.matches("\tfailed: not reached\t-\t-\n").count(), 9);
+        let words = ["move", "old", "new", "--ledger", "second.tsv"];
+        desk.run(&words).ended(0);
+        assert_eq!(whole(&desk), FILES);
     }
 }
 
 #[test]
-fn killed_it_leaves_only_whole_files_under_their_names() {
-    let desk = Desk::new("kill");
-    let mut child = started(&desk, desk.command(&MOVE));
-    send(&child, "-KILL");
-    child.wait().unwrap();
-    let done = whole(&desk);
-    assert!((20..FILES).contains(&done), "{done}");
-    // No ledger claims anything, and at most one draft is left.
+fn asked_to_stop_after_the_last_file_it_was_not_interrupted() {
+    let desk = deposited("stop-last");
+    let held = Held::after(desk.command(&MOVE), "linkat", "12");
+    held.send(INTERRUPT);
+    let ran = held.on().ended(0);
+    assert_eq!(ran.err, "");
+    assert_eq!(whole(&desk), FILES);
+}
+
+/// The second write of a file is its row; the first file that is not reached
+/// has only a row.
+#[test]
+fn interrupted_twice_it_ends_at_once() {
+    let desk = deposited("stop-twice");
+    let held = Held::after(desk.command(&MOVE), "write", "5,6");
+    held.send(INTERRUPT);
+    held.next();
+    held.send(INTERRUPT);
+    held.on().ended(-INTERRUPT);
+    assert_eq!(whole(&desk), 2);
     assert!(!desk.has("ledger.tsv"));
-    let drafts = desk.files("new").len() - done;
-    assert!(drafts <= 1, "{drafts}");
-    taken_up(&desk, "ledger.tsv");
+    let ledger = String::from_utf8(desk.get("ledger.tsv.unfinished")).unwrap();
+    assert_eq!(ledger.matches("\taccepted\t").count(), 2);
+    assert_eq!(ledger.matches("\tfailed: not reached\t").count(), 1);
 }
 
 /// As under `nohup`.
 #[test]
 fn a_signal_that_was_ignored_stays_so() {
-    let desk = Desk::new("ignored");
-    let mut command = Command::new("sh");
-    let line = format!(
-        "trap '' HUP; exec {} {}",
-        env!("CARGO_BIN_EXE_shelf"),
-        MOVE.join(" ")
-    );
-    command.arg("-c").arg(line).current_dir(desk.path("."));
-    let child = started(&desk, command);
-    send(&child, "-HUP");
-    let output = child.wait_with_output().unwrap();
-    assert_eq!(output.status.code(), Some(0));
-    assert_eq!(whole(&desk), FILES);
+    for number in [INTERRUPT, TERMINATE, HANG_UP] {
+        let desk = deposited(&format!("ignored-{number}"));
+        let mut command = desk.command(&MOVE);
+        unsafe {
+            command.pre_exec(move || {
+                signal(number, IGNORED);
+                Ok(())
+            });
+        }
+        let held = Held::after(command, "linkat", "3");
+        held.send(number);
+        held.on().ended(0);
+        assert_eq!(whole(&desk), FILES);
+    }
+}
+
+/// Nothing has been begun while a pipe or a terminal is read, so the system's
+/// own way to end a command is good enough.
+#[test]
+fn waiting_for_input_it_ends_on_the_first_signal() {
+    let desk = Desk::new("stop-input");
+    desk.put("good.b", &sample::file());
+    let made = Command::new("mkfifo").arg(desk.path("pipe")).status();
+    assert!(made.unwrap().success());
+    // Held open for writing too, so that whoever opens it waits for bytes.
+    let _writer = std::fs::File::options()
+        .read(true)
+        .write(true)
+        .open(desk.path("pipe"))
+        .unwrap();
+    for words in [
+        &["check", "-"][..],
+        &["check", "good.b", "pipe"],
+        &["check", "--files-from", "-"],
+        &["sheet", "-"],
+        &["show", "pipe", "1"],
+        &["rewrite", "-", "out.b"],
+        &["rewrite", "pipe", "out.b"],
+    ] {
+        for number in [INTERRUPT, TERMINATE, HANG_UP] {
+            let mut command = desk.command(words);
+            command.stdin(Stdio::piped()).stdout(Stdio::null());
+            let mut child = command.spawn().unwrap();
+            let input = child.stdin.take();
+            send(&child, number);
+            let ended = child.wait_with_output().unwrap();
+            drop(input);
+            assert_eq!(crate::desk::Ran::of(ended).status, -number, "{words:?}");
+        }
+    }
+    assert!(!desk.has("out.b"));
 }

@@ -32,8 +32,9 @@ fn a_row_for_each_file_and_totals_at_the_end() {
     let rows = ledger(&desk, 1);
     let titles = [&["file", "records in", "records out"], &KINDS[..]].concat();
     let titles = [&titles[..], &["fault", "record", "column", "outcome"]].concat();
-    assert_eq!(rows[0], titles);
-    assert!(rows.iter().all(|row| row.len() == 21));
+    assert_eq!(rows[0][..21], titles);
+    assert_eq!(rows[0][21..], ["sha-256 in", "sha-256 out"]);
+    assert!(rows.iter().all(|row| row.len() == 23));
     let names: Vec<&str> = rows[1..].iter().map(|row| row[0].as_str()).collect();
     let files = ["a/good.b", "b.b", "cut.b", "undefined.b"];
     let totals = [
@@ -48,12 +49,12 @@ fn a_row_for_each_file_and_totals_at_the_end() {
     let counts = counts.map(|count| count.to_string());
     assert_eq!(rows[1][1..3], ["60", "60"]);
     assert_eq!(rows[1][3..17], counts);
-    assert_eq!(rows[1][17..], ["0", "0", "0", "accepted"]);
+    assert_eq!(rows[1][17..21], ["0", "0", "0", "accepted"]);
     assert_eq!(rows[3][1..3], ["40", "0"]);
     assert!(rows[3][3..17].iter().all(|count| count == "0"));
-    assert_eq!(rows[3][17..], ["3", "41", "8", "refused"]);
+    assert_eq!(rows[3][17..21], ["3", "41", "8", "refused"]);
     assert_eq!(rows[4][1..3], ["24", "0"]);
-    assert_eq!(rows[4][17..], ["12", "5", "33", "refused"]);
+    assert_eq!(rows[4][17..21], ["12", "5", "33", "refused"]);
 
     // The totals are the sums of the rows of their outcome.
     assert_eq!(rows[5][1..3], ["84", "84"]);
@@ -62,11 +63,108 @@ fn a_row_for_each_file_and_totals_at_the_end() {
         .zip(counts(2))
         .map(|(one, other): (u32, u32)| one + other);
     assert!(counts(5).eq(sums));
-    assert_eq!(rows[5][17..], ["-", "-", "-", "2 files"]);
+    assert_eq!(rows[5][17..], ["-", "-", "-", "2 files", "-", "-"]);
     assert_eq!(rows[6][1..3], ["64", "0"]);
     assert_eq!(rows[6][20], "2 files");
     assert_eq!(rows[7][20], "0 files");
     assert_eq!(rows[8][20], "0 files");
+}
+
+/// A member can hold any file against the ledger with ordinary tools.
+#[test]
+fn digests_are_those_of_sha256sum() {
+    let desk = Desk::new("ledger-digests");
+    desk.put("old/good.b", &generate::accepted(3, 70));
+    desk.put("old/empty.b", b"");
+    desk.put("old/long.b", &generate::accepted(9, 100_003));
+    desk.put("old/refused.b", &sample::file()[..500]);
+    let rows = ledger(&desk, 1);
+    let said = |name: &str| {
+        let ran = desk.shell(&format!("sha256sum < {name}")).ended(0);
+        ran.out.split(' ').next().unwrap().to_string()
+    };
+    for row in &rows[1..5] {
+        assert_eq!(row[21], said(&format!("old/{}", row[0])));
+    }
+    assert_eq!(rows[2][0], "good.b");
+    assert_eq!(rows[2][22], said("new/good.b"));
+    for row in [1, 3, 4] {
+        assert_eq!(rows[row][22], "-");
+    }
+    // As the documents say it.
+    let line = "awk -F '\\t' '$21 ~ /^accepted/ { print $23 \"  \" $1 }' ../ledger.tsv";
+    let ran = desk
+        .shell(&format!("cd new; {line} | sha256sum -c"))
+        .ended(0);
+    assert_eq!(ran.out, "good.b: OK\n");
+}
+
+#[test]
+fn on_standard_output_with_the_report_beside_it() {
+    let desk = Desk::new("ledger-output");
+    desk.put("old/good.b", &sample::file());
+    desk.put("old/bad.b", b"bad");
+    for word in ["--ledger=-", "--ledger=ledger.tsv"] {
+        let ran = desk.run(&["move", "old", "new", word]).ended(1);
+        let ledger = match word {
+            "--ledger=-" => ran.out,
+            _ => String::from_utf8(desk.get("ledger.tsv")).unwrap(),
+        };
+        assert_eq!(ledger.lines().count(), 1 + 2 + 4);
+        if word == "--ledger=-" {
+            assert!(ran
+                .err
+                .starts_with("bad.b: refused, fault 3, record 1, column 4: "));
+            assert!(ran.err.contains("2 files below old: 1 accepted, 1 refused"));
+        }
+    }
+    assert_eq!(
+        desk.files("."),
+        ["ledger.tsv", "new/good.b", "old/bad.b", "old/good.b"]
+    );
+}
+
+/// What was moved is said even where the ledger cannot say it; the rows that
+/// it has are whole, and stay.
+#[test]
+fn a_ledger_that_cannot_be_finished() {
+    let desk = Desk::new("ledger-cut");
+    for number in 10..60 {
+        desk.put(format!("old/{number}.b"), &generate::accepted(number, 11));
+    }
+    let ran = desk
+        .shell("ulimit -f 16; shelf move old new --ledger l.tsv")
+        .ended(2);
+    let moved = desk.files("new");
+    assert!((10..50).contains(&moved.len()), "{moved:?}");
+    let said = format!(
+        "the ledger is not finished; {} of 50 files were moved\n",
+        moved.len()
+    );
+    assert!(ran
+        .err
+        .starts_with("shelf: l.tsv: the file is larger than may be written here\n"));
+    assert!(ran.err.contains(&said) && ran.out.starts_with(&said));
+    for name in &moved {
+        assert!(ran.err.contains(&format!("shelf: moved: {name}\n")));
+        assert!(ran.out.contains(&format!("\nmoved: {name}\n")));
+    }
+    assert!(!desk.has("l.tsv"));
+    let ledger = String::from_utf8(desk.get("l.tsv.unfinished")).unwrap();
+    assert!(ledger.ends_with('\n'));
+    assert_eq!(ledger.lines().count(), 1 + moved.len() - 1);
+    // The next run keeps what this one has written, and finishes.
+    let ran = desk
+        .run(&["move", "old", "new", "--ledger", "l.tsv"])
+        .ended(0);
+    let said = "shelf: l.tsv.unfinished: left by a run that was cut short, kept as \
+                l.tsv.unfinished.1\n";
+    assert_eq!(ran.err, said);
+    assert_eq!(
+        String::from_utf8(desk.get("l.tsv.unfinished.1")).unwrap(),
+        ledger
+    );
+    assert!(desk.has("l.tsv") && !desk.has("l.tsv.unfinished"));
 }
 
 #[test]
@@ -102,5 +200,5 @@ fn files_at_the_limit() {
     let rows = ledger(&desk, 1);
     assert_eq!(rows[1][1..3], ["99999", "99999"]);
     assert_eq!(rows[2][1..3], ["100003", "0"]);
-    assert_eq!(rows[2][17..], ["2", "100000", "1", "refused"]);
+    assert_eq!(rows[2][17..21], ["2", "100000", "1", "refused"]);
 }

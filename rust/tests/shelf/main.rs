@@ -2,10 +2,14 @@
 
 mod check;
 mod desk;
+mod held;
 mod interrupted;
+mod killed;
 mod ledgers;
 mod moving;
+mod places;
 mod rewrite;
+mod scripts;
 mod sheet;
 mod show;
 mod troubles;

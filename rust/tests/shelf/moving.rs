@@ -2,9 +2,10 @@
 
 use crate::desk::{house, Desk};
 use shelf::{generate, sample};
-use std::fs;
-use std::os::unix::fs::symlink;
+use std::fs::{self, File, Permissions};
+use std::os::unix::fs::{symlink, MetadataExt, PermissionsExt};
 use std::process::Command;
+use std::time::{Duration, UNIX_EPOCH};
 
 const MOVE: [&str; 5] = ["move", "old", "new", "--ledger", "ledger.tsv"];
 
@@ -78,7 +79,7 @@ fn a_second_run_finds_what_is_there_and_changes_nothing() {
     assert!(ran.out.contains("54 records in, 54 records out"));
     assert_eq!(made("new/a/good.b"), before);
     let ledger = String::from_utf8(desk.get("second.tsv")).unwrap();
-    assert_eq!(ledger.matches("\taccepted, there already\n").count(), 2);
+    assert_eq!(ledger.matches("\taccepted, there already\t").count(), 2);
     // The first ledger is not written over unless told, and this shows
     // before anything is moved.
     let kept = desk.get("ledger.tsv");
@@ -160,27 +161,6 @@ fn folders_that_are_missing_empty_or_files() {
 }
 
 #[test]
-fn a_ledger_among_the_files_is_refused() {
-    let desk = Desk::new("move-ledger");
-    desk.put("old/good.b", &sample::file());
-    for (ledger, said) in [
-        (
-            "old/l.tsv",
-            "the ledger must not stand below the old folder",
-        ),
-        ("new/good.b", "the ledger would take the place of a file"),
-        ("none/l.tsv", "there is no such file or folder"),
-    ] {
-        let ran = desk.run(&again(ledger)).ended(2);
-        assert_eq!(ran.err, format!("shelf: {ledger}: {said}\n"));
-    }
-    assert_eq!(desk.files("."), ["old/good.b"]);
-    fs::create_dir(desk.path("new")).unwrap();
-    desk.run(&again("new/l.tsv")).ended(0);
-    assert_eq!(desk.files("new"), ["good.b", "l.tsv"]);
-}
-
-#[test]
 fn links_and_pipes_are_named_and_not_followed() {
     let desk = Desk::new("move-links");
     desk.put("old/good.b", &sample::file());
@@ -203,21 +183,6 @@ fn links_and_pipes_are_named_and_not_followed() {
     assert_eq!(desk.files("new"), ["good.b"]);
 }
 
-/// A link below the new folder could lead to the old files themselves.
-#[test]
-fn a_link_that_leads_out_of_the_new_folder_is_not_followed() {
-    let desk = Desk::new("move-out");
-    let file = sample::file();
-    desk.put("old/sub/good.b", &file);
-    fs::create_dir(desk.path("new")).unwrap();
-    symlink("../old/sub", desk.path("new/sub")).unwrap();
-    let ran = desk.run(&[&MOVE[..], &["--replace"]].concat()).ended(2);
-    assert!(ran
-        .out
-        .contains("failed: new/sub: it leads out of the new folder"));
-    assert_eq!(desk.get("old/sub/good.b"), file);
-}
-
 #[test]
 fn what_cannot_be_read_is_named_and_stops_no_other() {
     let desk = Desk::new("move-shut");
@@ -229,7 +194,7 @@ fn what_cannot_be_read_is_named_and_stops_no_other() {
     desk.mode("old/b-secret.b", 0o000);
     desk.mode("room", 0o777);
     let words = ["move", "old", "room/new", "--ledger", "room/l.tsv"];
-    let ran = desk.run_as_nobody(&words).ended(2);
+    let ran = desk.run_without_rights(&words).ended(2);
     desk.mode("old/a-shut", 0o755);
     assert!(ran
         .out
@@ -265,4 +230,85 @@ fn a_file_where_a_folder_is_needed() {
     assert!(ran.out.contains("a/good.b: failed: new/a: "), "{}", ran.out);
     assert_eq!(desk.get("new/a"), b"kept");
     assert_eq!(desk.files("new"), ["a", "b.b"]);
+}
+
+#[test]
+fn a_dry_run_writes_the_ledger_only() {
+    let desk = Desk::new("move-dry");
+    desk.put("old/a/good.b", &sample::file());
+    desk.put("old/bad.b", b"bad");
+    desk.put("old/there.b", &sample::file());
+    desk.put("old/other.b", &sample::file());
+    let words = [&MOVE[..], &["--dry-run"]].concat();
+    let ran = desk.run(&words).ended(1);
+    assert!(ran.out.ends_with(
+        "4 files below old: 3 accepted, 1 refused, 0 not judged, 0 failed\n\
+         a dry run: nothing was written but the ledger\n"
+    ));
+    assert!(!desk.has("new"));
+    let ledger = String::from_utf8(desk.get("ledger.tsv")).unwrap();
+    assert_eq!(
+        ledger
+            .matches("\taccepted, not written: a dry run\t")
+            .count(),
+        3
+    );
+    assert!(ledger.contains("a/good.b\t24\t0\t"));
+    // What stands in the way is found too.
+    desk.put("new/there.b", &house(&sample::file()));
+    desk.put("new/other.b", b"other");
+    desk.put("new/.shelf-1-1.tmp", b"draft");
+    let words = [&again("second.tsv")[..], &["--dry-run"]].concat();
+    let ran = desk.run(&words).ended(2);
+    assert!(ran
+        .out
+        .contains("other.b: failed: new/other.b: there is one already"));
+    let ledger = String::from_utf8(desk.get("second.tsv")).unwrap();
+    assert!(ledger.contains("\taccepted, there already\t"));
+    assert_eq!(desk.files("new"), [".shelf-1-1.tmp", "other.b", "there.b"]);
+}
+
+#[test]
+fn quiet_says_only_what_was_not_moved() {
+    let desk = Desk::new("move-quiet");
+    desk.put("old/good.b", &sample::file());
+    let ran = desk.run(&[&MOVE[..], &["--quiet"]].concat()).ended(0);
+    assert_eq!((ran.out.as_str(), ran.err.as_str()), ("", ""));
+    desk.put("old/bad.b", b"bad");
+    let ran = desk
+        .run(&[&again("l.tsv")[..], &["--quiet"]].concat())
+        .ended(1);
+    assert_eq!(ran.out.lines().count(), 1);
+    assert!(ran.out.starts_with("bad.b: refused, fault 3"));
+}
+
+/// A deposit's date matters to an archive.
+#[test]
+fn rights_and_times_are_kept() {
+    let desk = Desk::new("move-kept");
+    desk.put("old/a/deep/good.b", &sample::file());
+    desk.put("old/b/good.b", &sample::file());
+    desk.put("new/b/other", b"of the archive");
+    let names = ["a/deep/good.b", "b/good.b", "a/deep", "a", "b", ""];
+    let then = |number: usize| UNIX_EPOCH + Duration::new(86_400 * 365 * 30 + number as u64, 5);
+    for (number, name) in names.iter().enumerate() {
+        let path = desk.path(format!("old/{name}"));
+        let file = File::open(path).unwrap();
+        let mode = if number < 2 { 0o640 } else { 0o2750 };
+        file.set_permissions(Permissions::from_mode(mode)).unwrap();
+        file.set_modified(then(number)).unwrap();
+    }
+    let known = |name: &str| fs::metadata(desk.path(format!("new/{name}"))).unwrap();
+    let (before, rights) = (known("b").modified().unwrap(), known("b").mode());
+    desk.run(&MOVE).ended(0);
+    for (number, name) in names.iter().enumerate().take(4) {
+        let known = known(name);
+        assert_eq!(known.modified().unwrap(), then(number), "{name}");
+        let mode = if number < 2 { 0o640 } else { 0o750 };
+        assert_eq!(known.mode() & 0o7777, mode, "{name}");
+    }
+    // A folder that holds something else is the archive's own.
+    assert_eq!(known("b").mode(), rights);
+    assert!(known("b").modified().unwrap() >= before);
+    assert!(known("").modified().unwrap() >= before);
 }

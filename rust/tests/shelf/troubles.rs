@@ -1,8 +1,7 @@
 //! Files that cannot be read, folders that cannot be written to, full disks.
 
-use crate::desk::Desk;
+use crate::desk::{Desk, Ran};
 use shelf::{generate, sample};
-use std::process::Command;
 
 #[test]
 fn files_that_are_not_there_and_folders() {
@@ -17,7 +16,7 @@ fn files_that_are_not_there_and_folders() {
         let ran = desk.run(words).ended(2);
         assert_eq!(ran.err, "shelf: none.b: there is no such file or folder\n");
     }
-    let ran = desk.run(&["check", "folder"]).ended(2);
+    let ran = desk.run(&["sheet", "folder"]).ended(2);
     assert_eq!(ran.err, "shelf: folder: it is a folder, not a file\n");
     let ran = desk.run(&["check", "folder/good.b/x"]).ended(2);
     assert!(ran
@@ -41,7 +40,7 @@ fn no_permission() {
     desk.mode("secret.b", 0o000);
     desk.mode("good.b", 0o644);
     let ran = desk
-        .run_as_nobody(&["check", "secret.b", "good.b"])
+        .run_without_rights(&["check", "secret.b", "good.b"])
         .ended(2);
     assert_eq!(ran.err, "shelf: secret.b: no permission\n");
     assert!(ran.out.starts_with("good.b: accepted"));
@@ -49,7 +48,7 @@ fn no_permission() {
     desk.put("shut/other.b", b"");
     desk.mode("shut", 0o555);
     let words = ["rewrite", "good.b", "shut/out.b"];
-    let ran = desk.run_as_nobody(&words).ended(2);
+    let ran = desk.run_without_rights(&words).ended(2);
     assert_eq!(ran.err, "shelf: shut/out.b: no permission\n");
     desk.mode("shut", 0o755);
     assert_eq!(desk.files("shut"), ["other.b"]);
@@ -71,6 +70,21 @@ fn standard_output_on_a_full_disk() {
             "{line}"
         );
     }
+    for line in [
+        "check good.b",
+        "sheet good.b",
+        "show good.b 5",
+        "help",
+        "--version",
+    ] {
+        let ran = desk.shell(&format!("shelf {line} >&-")).ended(2);
+        assert_eq!(ran.err, "shelf: standard output: it is closed\n", "{line}");
+        let ran = desk.shell(&format!("shelf {line} 1< good.b")).ended(2);
+        assert!(ran.err.starts_with("shelf: standard output: "), "{line}");
+    }
+    desk.shell("shelf rewrite good.b - > /dev/full").ended(2);
+    desk.shell("shelf rewrite good.b out.b >&-").ended(2);
+    assert!(!desk.has("out.b"));
     // The move itself is done, and its ledger written, but not reported.
     desk.put("old/good.b", &sample::file());
     desk.shell("shelf move old new --ledger l.tsv > /dev/full")
@@ -94,18 +108,10 @@ fn a_limit_on_the_size_of_files() {
     assert_eq!(desk.files("."), ["in.b", "out.b"]);
 }
 
-/// Runs a line with a small disk of its own at `disk`. It needs a name space
-/// of its own, which not every machine gives; the limit above is the same
-/// path through the command.
-fn on_a_small_disk(desk: &Desk, line: &str) -> Option<crate::desk::Ran> {
-    let given = Command::new("unshare").args(["-rm", "true"]).status();
-    if !given.is_ok_and(|status| status.success()) {
-        eprintln!("no small disk can be had here");
-        return None;
-    }
-    let mounted = "mount -t tmpfs -o size=64k none disk &&";
-    let line = line.replace("shelf ", concat!(env!("CARGO_BIN_EXE_shelf"), " "));
-    Some(desk.shell(&format!("unshare -rm sh -c '{mounted} {line}'")))
+/// Runs a line with a small disk of its own at `disk`; the limit above is the
+/// same path through the command.
+fn on_a_small_disk(desk: &Desk, line: &str) -> Option<Ran> {
+    desk.mounted("mount -t tmpfs -o size=64k none disk", line)
 }
 
 #[test]

@@ -39,6 +39,11 @@ fn wrong_words_end_with_2_and_say_what_is_wrong() {
             "rewrite takes no --ledger",
         ),
         (&["check", "--quickly", "a"], "there is no option --quickly"),
+        (&["check", "--json=yes", "a"], "--json takes no value"),
+        (&["check", "-0", "a"], "-0 goes with --files-from"),
+        (&["move", "a", "b", "--ledger="], "--ledger needs a file"),
+        (&["sheet", "a", "--json"], "sheet takes no --json"),
+        (&["help", "check", "move"], "help takes one command"),
     ] {
         let ran = desk.run(words).ended(2);
         assert!(ran.err.contains(what), "{words:?}: {}", ran.err);
@@ -51,13 +56,61 @@ fn wrong_words_end_with_2_and_say_what_is_wrong() {
 #[test]
 fn help_is_given_when_asked_for() {
     let desk = Desk::new("help");
-    for words in [&["help"][..], &["--help"], &["-h"], &["move", "--help"]] {
+    for words in [&["help"][..], &["--help"], &["-h"]] {
         let ran = desk.run(words).ended(0);
-        for verb in ["check", "sheet", "show", "rewrite", "move"] {
+        for verb in ["check", "sheet", "show", "rewrite", "move", "help"] {
             assert!(ran.out.contains(&format!("shelf {verb} ")));
         }
+        assert!(ran.out.lines().all(|line| line.len() < 100));
         assert_eq!(ran.err, "");
     }
+}
+
+#[test]
+fn help_on_each_command() {
+    let desk = Desk::new("help-each");
+    for (verb, option) in [
+        ("check", "--files-from FILE"),
+        ("sheet", "--help"),
+        ("show", "--version"),
+        ("rewrite", "--replace"),
+        ("move", "--dry-run"),
+        ("help", "--help"),
+    ] {
+        let page = desk.run(&["help", verb]).ended(0).out;
+        assert!(page.starts_with(&format!("shelf {verb} ")), "{page}");
+        assert!(page.contains(&format!("\n{option}")), "{page}");
+        for words in [[verb, "--help"], [verb, "-h"]] {
+            assert_eq!(desk.run(&words).ended(0).out, page);
+        }
+    }
+    for words in [["help", "frobnicate"], ["frobnicate", "--help"]] {
+        let ran = desk.run(&words).ended(2);
+        assert!(ran
+            .err
+            .starts_with("shelf: there is no command frobnicate\n"));
+        assert_eq!(ran.out, "");
+    }
+}
+
+#[test]
+fn the_version_says_which_library_it_is() {
+    let desk = Desk::new("version");
+    let first = desk.run(&["--version"]).ended(0).out;
+    let named = format!("shelf {}\nlibrary: ", env!("CARGO_PKG_VERSION"));
+    let library = first.strip_prefix(&named).unwrap();
+    if shelf::library::IS_STANDIN {
+        assert_eq!(library, "a stand-in, not the proved one\n");
+    } else {
+        let archive = concat!(
+            env!("CARGO_MANIFEST_DIR"),
+            "/../target/staticlib/libexport.a"
+        );
+        let said = desk.shell(&format!("sha256sum < '{archive}'")).ended(0).out;
+        let digest = said.split(' ').next().unwrap();
+        assert_eq!(library, format!("libexport.a, sha-256 {digest}\n"));
+    }
+    assert_eq!(desk.run(&["move", "--version"]).ended(0).out, first);
 }
 
 #[test]

@@ -1,44 +1,138 @@
-//! The words of the command.
+//! The words of the command. One table has every command and every option;
+//! parsing and help go by it, and tests hold the manual page and the shells'
+//! completions against it.
 
 use crate::names;
 use crate::trouble::Trouble;
-use std::ffi::OsString;
+use std::ffi::{OsStr, OsString};
+use std::os::unix::ffi::OsStrExt;
 use std::path::{Path, PathBuf};
 
-pub const USAGE: &str = "\
-shelf check FILE..                judge files: accepted, or the first fault
-shelf sheet FILE                  the deposit sheet, of up to 64,800 bytes
-shelf show FILE RECORD            one record's values
-shelf rewrite IN OUT              an accepted file in house style
-shelf move OLD NEW --ledger FILE  every accepted file below OLD, in house style,
-                                  below NEW; a ledger names every file
-shelf help                        this page
+/// An option of a command.
+pub struct Choice {
+    pub name: &'static str,
+    /// What follows it, if something does.
+    pub value: Option<&'static str>,
+    pub what: &'static str,
+}
 
---replace  lets rewrite and move write over files that are there
---         the words behind it are names, also with a dash in front
+/// A command.
+pub struct Verb {
+    pub name: &'static str,
+    pub operands: &'static str,
+    /// In one line of the overview, and in full.
+    pub what: &'static str,
+    pub more: &'static str,
+    pub choices: &'static [Choice],
+}
 
-Exit status: 0 accepted, 1 something was refused, 2 wrong words or a file that
-could not be read or written.
-";
+const fn flag(name: &'static str, what: &'static str) -> Choice {
+    let value = None;
+    Choice { name, value, what }
+}
+
+const fn with_file(name: &'static str, what: &'static str) -> Choice {
+    let value = Some("FILE");
+    Choice { name, value, what }
+}
+
+const REPLACE: Choice = flag("--replace", "write over a file that is there");
+
+pub const VERBS: [Verb; 6] = [
+    Verb {
+        name: "check",
+        operands: "FILE..",
+        what: "judge files: accepted, or the first fault",
+        more: "Of a folder every file below it is judged; links are not followed.\n",
+        choices: &[
+            with_file(
+                "--files-from",
+                "judge the files named in FILE, a line each, too",
+            ),
+            flag(
+                "-0",
+                "in that FILE a zero byte ends each name, not a line feed",
+            ),
+            flag("--json", "one JSON object for each file, a line each"),
+            flag("--quiet", "say nothing of accepted files"),
+        ],
+    },
+    Verb {
+        name: "sheet",
+        operands: "FILE",
+        what: "the deposit sheet, of up to 64,800 bytes",
+        more: "",
+        choices: &[],
+    },
+    Verb {
+        name: "show",
+        operands: "FILE RECORD",
+        what: "one record's values",
+        more: "RECORD is its number, from 1 on.\n",
+        choices: &[],
+    },
+    Verb {
+        name: "rewrite",
+        operands: "IN OUT",
+        what: "an accepted file in house style",
+        more: "A refused file is not written, and OUT stays as it was.\n",
+        choices: &[REPLACE, flag("--quiet", "say nothing if all went well")],
+    },
+    Verb {
+        name: "move",
+        operands: "OLD NEW",
+        what: "every accepted file below OLD, in house style, below NEW",
+        more: "Nothing below OLD is changed. The ledger names every file, with what became\n\
+               of it and the SHA-256 of what was read and of what was written. At the end\n\
+               every moved file is looked at once more. A run that was stopped can be run\n\
+               again.\n",
+        choices: &[
+            with_file("--ledger", "where the ledger is written; it has to be said"),
+            REPLACE,
+            flag("--dry-run", "judge every file, and write the ledger only"),
+            flag("--quiet", "say nothing but what was not moved"),
+        ],
+    },
+    Verb {
+        name: "help",
+        operands: "[COMMAND]",
+        what: "this page, or a command's own",
+        more: "",
+        choices: &[],
+    },
+];
+
+/// What every command takes.
+pub const ALWAYS: [Choice; 2] = [
+    flag("--help", "help on the command"),
+    flag("--version", "which version this is, and over which library"),
+];
 
 pub enum Command {
-    Check {
-        files: Vec<PathBuf>,
-    },
-    Sheet {
-        file: PathBuf,
-    },
-    Show {
-        file: PathBuf,
-        record: u32,
-    },
-    Rewrite {
-        from: PathBuf,
-        to: PathBuf,
-        replace: bool,
-    },
+    Check(Check),
+    Sheet { file: PathBuf },
+    Show { file: PathBuf, record: u32 },
+    Rewrite(Rewrite),
     Move(Order),
-    Help,
+    Help(Option<&'static Verb>),
+    Version,
+}
+
+/// What is to be judged.
+pub struct Check {
+    pub files: Vec<PathBuf>,
+    pub files_from: Option<PathBuf>,
+    pub zero_ends: bool,
+    pub json: bool,
+    pub quiet: bool,
+}
+
+/// What is to be rewritten.
+pub struct Rewrite {
+    pub from: PathBuf,
+    pub to: PathBuf,
+    pub replace: bool,
+    pub quiet: bool,
 }
 
 /// What is to be moved where.
@@ -47,82 +141,179 @@ pub struct Order {
     pub new: PathBuf,
     pub ledger: PathBuf,
     pub replace: bool,
+    pub dry_run: bool,
+    pub quiet: bool,
 }
 
 /// The words apart: names, and what was asked for by a dash.
 #[derive(Default)]
 struct Words {
     names: Vec<PathBuf>,
-    ledger: Option<PathBuf>,
-    replace: bool,
-    help: bool,
+    given: Vec<(&'static str, PathBuf)>,
+}
+
+impl Words {
+    fn has(&self, name: &str) -> bool {
+        self.given.iter().any(|(given, _)| *given == name)
+    }
+
+    fn value(&self, name: &str) -> Option<PathBuf> {
+        let mut values = self.given.iter().filter(|(given, _)| *given == name);
+        values.next().map(|(_, value)| value.clone())
+    }
 }
 
 pub fn parse(mut words: impl Iterator<Item = OsString>) -> Result<Command, Trouble> {
-    let Some(verb) = words.next() else {
+    let Some(word) = words.next() else {
         return Err(Trouble::usage("no command was given"));
     };
-    let known = verb.to_str().unwrap_or("");
-    let words = apart(words)?;
-    if words.help || matches!(known, "help" | "--help" | "-h") {
-        return Ok(Command::Help);
+    let verb = match word.to_str() {
+        Some("-h" | "--help") => verb_named(OsStr::new("help"))?,
+        Some("--version") => return Ok(Command::Version),
+        _ => verb_named(&word)?,
+    };
+    let words = apart(verb, words)?;
+    if words.has("--version") {
+        return Ok(Command::Version);
     }
-    let may_replace = matches!(known, "rewrite" | "move");
-    if words.replace && !may_replace || words.ledger.is_some() && known != "move" {
-        let option = if words.replace {
-            "--replace"
-        } else {
-            "--ledger"
-        };
-        return Err(Trouble::usage(format!("{known} takes no {option}")));
+    if words.has("--help") {
+        return Ok(Command::Help(Some(verb)));
     }
-    match known {
-        "check" if !words.names.is_empty() => Ok(Command::Check { files: words.names }),
-        "check" => Err(Trouble::usage("check needs at least one file")),
+    command(verb, words)
+}
+
+fn command(verb: &'static Verb, mut words: Words) -> Result<Command, Trouble> {
+    let [replace, quiet] = ["--replace", "--quiet"].map(|name| words.has(name));
+    let names = std::mem::take(&mut words.names);
+    match verb.name {
+        "check" => check(names, &words),
         "sheet" => {
-            let [file] = exactly(words.names, "sheet needs one file")?;
+            let [file] = exactly(names, "sheet needs one file")?;
             Ok(Command::Sheet { file })
         }
         "show" => {
-            let [file, record] = exactly(words.names, "show needs a file and a record number")?;
+            let [file, record] = exactly(names, "show needs a file and a record number")?;
             let record = record_number(&record)?;
             Ok(Command::Show { file, record })
         }
         "rewrite" => {
-            let [from, to] = exactly(words.names, "rewrite needs two files")?;
-            let replace = words.replace;
-            Ok(Command::Rewrite { from, to, replace })
+            let [from, to] = exactly(names, "rewrite needs two files")?;
+            Ok(Command::Rewrite(Rewrite {
+                from,
+                to,
+                replace,
+                quiet,
+            }))
         }
-        "move" => order(words),
-        _ => {
-            let verb = names::shown(Path::new(&verb));
-            Err(Trouble::usage(format!("there is no command {verb}")))
+        "move" => {
+            let [old, new] = exactly(names, "move needs an old and a new folder")?;
+            let ledger = words.value("--ledger");
+            let ledger = ledger.ok_or_else(|| Trouble::usage("move needs --ledger FILE"))?;
+            let dry_run = words.has("--dry-run");
+            Ok(Command::Move(Order {
+                old,
+                new,
+                ledger,
+                replace,
+                dry_run,
+                quiet,
+            }))
         }
+        _ => match &names[..] {
+            [] => Ok(Command::Help(None)),
+            [name] => Ok(Command::Help(Some(verb_named(name.as_os_str())?))),
+            _ => Err(Trouble::usage("help takes one command")),
+        },
     }
 }
 
-fn apart(mut words: impl Iterator<Item = OsString>) -> Result<Words, Trouble> {
+fn check(files: Vec<PathBuf>, words: &Words) -> Result<Command, Trouble> {
+    let files_from = words.value("--files-from");
+    if files.is_empty() && files_from.is_none() {
+        return Err(Trouble::usage("check needs at least one file"));
+    }
+    let [zero_ends, json, quiet] = ["-0", "--json", "--quiet"].map(|name| words.has(name));
+    if zero_ends && files_from.is_none() {
+        return Err(Trouble::usage("-0 goes with --files-from"));
+    }
+    Ok(Command::Check(Check {
+        files,
+        files_from,
+        zero_ends,
+        json,
+        quiet,
+    }))
+}
+
+fn verb_named(word: &OsStr) -> Result<&'static Verb, Trouble> {
+    let verb = VERBS.iter().find(|verb| word == verb.name);
+    verb.ok_or_else(|| {
+        let word = names::shown(Path::new(word));
+        Trouble::usage(format!("there is no command {word}"))
+    })
+}
+
+/// An option as it is written, and what stands behind its `=`.
+fn split(word: &OsStr) -> (&OsStr, Option<&OsStr>) {
+    let bytes = word.as_bytes();
+    match bytes.iter().position(|byte| *byte == b'=') {
+        Some(at) if bytes.starts_with(b"--") => (
+            OsStr::from_bytes(&bytes[..at]),
+            Some(OsStr::from_bytes(&bytes[at + 1..])),
+        ),
+        _ => (word, None),
+    }
+}
+
+fn apart(verb: &'static Verb, mut words: impl Iterator<Item = OsString>) -> Result<Words, Trouble> {
     let mut found = Words::default();
     while let Some(word) = words.next() {
-        match word.to_str() {
-            Some("--replace") => found.replace = true,
-            Some("--help" | "-h") => found.help = true,
-            Some("--ledger") => {
-                let name = words.next();
-                let name = name.ok_or_else(|| Trouble::usage("--ledger needs a file"))?;
-                if found.ledger.replace(name.into()).is_some() {
-                    return Err(Trouble::usage("--ledger was given twice"));
+        match word.as_bytes() {
+            b"--" => found.names.extend(words.by_ref().map(PathBuf::from)),
+            [b'-', _, ..] => {
+                let (name, value) = split(&word);
+                let choice = choice_named(verb, name)?;
+                let value = match (choice.value, value) {
+                    (None, None) => PathBuf::new(),
+                    (None, Some(_)) => {
+                        let what = format!("{} takes no value", choice.name);
+                        return Err(Trouble::usage(what));
+                    }
+                    (Some(_), Some(value)) if !value.is_empty() => value.into(),
+                    (Some(_), None) => words.next().map(PathBuf::from).unwrap_or_default(),
+                    _ => PathBuf::new(),
+                };
+                if choice.value.is_some() && value.as_os_str().is_empty() {
+                    return Err(Trouble::usage(format!("{} needs a file", choice.name)));
                 }
-            }
-            Some("--") => found.names.extend(words.by_ref().map(PathBuf::from)),
-            Some(option) if option.starts_with('-') && option.len() > 1 => {
-                let option = names::shown(Path::new(option));
-                return Err(Trouble::usage(format!("there is no option {option}")));
+                if choice.value.is_some() && found.has(choice.name) {
+                    let what = format!("{} was given twice", choice.name);
+                    return Err(Trouble::usage(what));
+                }
+                found.given.push((choice.name, value));
             }
             _ => found.names.push(word.into()),
         }
     }
     Ok(found)
+}
+
+fn choice_named(verb: &'static Verb, word: &OsStr) -> Result<&'static Choice, Trouble> {
+    let word = if word == "-h" {
+        OsStr::new("--help")
+    } else {
+        word
+    };
+    let is_named = |choice: &&Choice| word == choice.name;
+    if let Some(choice) = verb.choices.iter().chain(&ALWAYS).find(is_named) {
+        return Ok(choice);
+    }
+    let mut others = VERBS.iter().flat_map(|verb| verb.choices);
+    let shown = names::shown(Path::new(word));
+    Err(Trouble::usage(match others.find(is_named) {
+        Some(_) => format!("{} takes no {shown}", verb.name),
+        None => format!("there is no option {shown}"),
+    }))
 }
 
 fn exactly<const N: usize>(names: Vec<PathBuf>, what: &str) -> Result<[PathBuf; N], Trouble> {
@@ -138,16 +329,4 @@ fn record_number(word: &Path) -> Result<u32, Trouble> {
         let word = names::shown(word);
         Trouble::usage(format!("{word} is no record number"))
     })
-}
-
-fn order(words: Words) -> Result<Command, Trouble> {
-    let [old, new] = exactly(words.names, "move needs an old and a new folder")?;
-    let ledger = words.ledger;
-    let ledger = ledger.ok_or_else(|| Trouble::usage("move needs --ledger FILE"))?;
-    Ok(Command::Move(Order {
-        old,
-        new,
-        ledger,
-        replace: words.replace,
-    }))
 }

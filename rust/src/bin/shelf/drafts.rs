@@ -1,107 +1,135 @@
 //! Files that are written under a passing name in their own folder and then
 //! put in place whole, so that no name ever holds half a file.
 
+use crate::disk::{self, Folder, Id, Kept, Opened};
 use crate::trouble::Trouble;
-use std::fs::{self, File, OpenOptions};
-use std::io::{ErrorKind, Write};
-use std::path::{Path, PathBuf};
+use std::ffi::{OsStr, OsString};
+use std::fs::{self, File};
+use std::io::{self, ErrorKind, Read, Seek, Write};
+use std::os::unix::fs::MetadataExt;
+use std::path::Path;
 use std::process;
 
+const BEGIN: &str = ".shelf-";
+const END: &str = ".tmp";
+
+/// How many passing names are tried.
+const TRIES: u32 = 1_000;
+
+/// Whether a name is one that drafts have: `.shelf-NUMBER-NUMBER.tmp`.
+pub fn is_draft(name: &OsStr) -> bool {
+    let numbers = |name: &str| {
+        let middle = name.strip_prefix(BEGIN)?.strip_suffix(END)?;
+        let (one, other) = middle.split_once('-')?;
+        let digits = |word: &str| !word.is_empty() && word.bytes().all(|b| b.is_ascii_digit());
+        (digits(one) && digits(other)).then_some(())
+    };
+    name.to_str().and_then(numbers).is_some()
+}
+
 /// A file on its way. It is removed again unless it is put in place.
-pub struct Draft {
-    target: PathBuf,
-    path: PathBuf,
+pub struct Draft<'a> {
+    folder: &'a Folder,
+    name: OsString,
     file: File,
 }
 
-impl Draft {
-    /// Begins a file that is to stand at `target`. Unless it may be replaced,
-    /// nothing may stand there; what is no regular file is never replaced.
-    pub fn begin(target: &Path, replace: bool) -> Result<Draft, Trouble> {
-        if let Ok(there) = fs::symlink_metadata(target) {
-            if !replace {
-                return Err(is_there(target));
-            }
-            if !there.is_file() {
-                let what = "not written over: it is no regular file";
-                return Err(Trouble::about(target, what));
-            }
-        }
-        for number in 0..1_000 {
-            let name = format!(".shelf-{}-{number}.tmp", process::id());
-            let path = folder_of(target).join(name);
-            let made = OpenOptions::new().write(true).create_new(true).open(&path);
-            match made {
+impl Draft<'_> {
+    /// Begins a file with these rights, as far as the user grants them.
+    pub fn begin(folder: &Folder, rights: u32) -> io::Result<Draft<'_>> {
+        for number in 0..TRIES {
+            let name = OsString::from(format!("{BEGIN}{}-{number}{END}", process::id()));
+            match folder.create(&name, rights) {
                 Ok(file) => {
-                    let target = target.to_path_buf();
-                    return Ok(Draft { target, path, file });
+                    let draft = Draft { folder, name, file };
+                    if draft.is_held()? {
+                        return Ok(draft);
+                    }
                 }
                 Err(error) if error.kind() == ErrorKind::AlreadyExists => (),
-                Err(error) => return Err(Trouble::on(target)(error)),
+                Err(error) => return Err(error),
             }
         }
-        Err(is_there(target))
+        Err(ErrorKind::AlreadyExists.into())
     }
 
-    pub fn add(&mut self, bytes: &[u8]) -> Result<(), Trouble> {
-        self.file
-            .write_all(bytes)
-            .map_err(Trouble::on(&self.target))
+    /// Holds the draft, so that no other run takes it for one that was left.
+    /// One may have done so, and removed it, just before.
+    fn is_held(&self) -> io::Result<bool> {
+        // Where a disk has no locks, no run removes a draft either.
+        let _ = self.file.lock();
+        self.folder.is_at(&self.name, self.id()?)
+    }
+
+    pub fn id(&self) -> io::Result<Id> {
+        Ok(Id::of(&self.file.metadata()?))
+    }
+
+    pub fn add(&mut self, bytes: &[u8]) -> io::Result<()> {
+        self.file.write_all(bytes)
+    }
+
+    /// Takes over rights and time.
+    pub fn keep(&self, kept: Kept) -> io::Result<()> {
+        disk::keep(&self.file, kept)
     }
 
     /// Sees to it that the disk has all that was added.
-    pub fn flush(&mut self) -> Result<(), Trouble> {
-        self.file.sync_all().map_err(Trouble::on(&self.target))
+    pub fn flush(&self) -> io::Result<()> {
+        self.file.sync_all()
     }
 
     /// What the disk gives back of what was written.
-    pub fn read_back(&self) -> Result<Vec<u8>, Trouble> {
-        fs::read(&self.path).map_err(Trouble::on(&self.target))
+    pub fn read_back(&mut self) -> io::Result<Vec<u8>> {
+        let mut bytes = Vec::new();
+        self.file.rewind()?;
+        self.file.read_to_end(&mut bytes)?;
+        Ok(bytes)
     }
 
-    /// Puts the file in its place, in one step.
-    pub fn place(mut self, replace: bool) -> Result<(), Trouble> {
-        self.flush()?;
-        if replace {
-            return fs::rename(&self.path, &self.target).map_err(Trouble::on(&self.target));
-        }
-        // Unlike renaming, linking fails if another put a file there since.
-        match fs::hard_link(&self.path, &self.target) {
-            Ok(()) => Ok(()),
-            Err(error) if error.kind() == ErrorKind::AlreadyExists => Err(is_there(&self.target)),
-            Err(_) if fs::symlink_metadata(&self.target).is_ok() => Err(is_there(&self.target)),
-            // Some disks have no links.
-            Err(_) => fs::rename(&self.path, &self.target).map_err(Trouble::on(&self.target)),
-        }
+    /// Gives the file its name, in one step. Unless it may be replaced, a
+    /// file that is there stays: `AlreadyExists`.
+    pub fn place(self, target: &OsStr, replace: bool) -> io::Result<()> {
+        self.folder.give_name(&self.name, target, replace)
     }
 }
 
-impl Drop for Draft {
+impl Drop for Draft<'_> {
     fn drop(&mut self) {
-        // It is gone already if it was renamed.
-        let _ = fs::remove_file(&self.path);
+        // It is gone already if it was put in place.
+        let _ = self.folder.remove(&self.name);
     }
 }
 
-fn is_there(target: &Path) -> Trouble {
+/// Whether a file may be put at `target`. Unless it may be replaced, nothing
+/// may stand there; what is no regular file is never replaced.
+pub fn is_free(folder: &Folder, target: &OsStr, replace: bool) -> Result<(), Trouble> {
+    let path = folder.named(target);
+    match folder.find(target).map_err(Trouble::on(&path))? {
+        Some(there) if !there.is_file() => {
+            let what = "not written over: it is no regular file";
+            Err(Trouble::about(&path, what))
+        }
+        Some(_) if !replace => Err(is_there(&path)),
+        _ => Ok(()),
+    }
+}
+
+pub fn is_there(target: &Path) -> Trouble {
     let what = "there is one already (--replace lets it be written over)";
     Trouble::about(target, what)
 }
 
-/// The folder that a file stands in.
-pub fn folder_of(path: &Path) -> &Path {
-    match path.parent() {
-        Some(folder) if folder != Path::new("") => folder,
-        _ => Path::new("."),
-    }
-}
-
-/// Sees to it that the disk has the names that were put into a folder.
-pub fn flush_folder(folder: &Path) -> Result<(), Trouble> {
-    let flushed = File::open(folder).and_then(|open| open.sync_all());
-    match flushed {
-        // Some disks cannot flush a folder.
-        Err(error) if error.kind() == ErrorKind::InvalidInput => Ok(()),
-        other => other.map_err(Trouble::on(folder)),
+/// Removes a draft that a run of this user left when it was cut short. One
+/// that a run still holds, or another user's, stays. Says whether it is gone.
+pub fn remove_left(folder: &Folder, name: &OsStr) -> bool {
+    let Ok(own) = fs::metadata("/proc/self") else {
+        return false;
+    };
+    match folder.file(name) {
+        Ok(Opened::File(file, known)) if known.uid() == own.uid() => {
+            file.try_lock().is_ok() && folder.remove(name).is_ok()
+        }
+        _ => false,
     }
 }

@@ -1,53 +1,83 @@
 //! An accepted file written in house style, read back and compared before it
 //! gets its name.
 
+use crate::disk::{Folder, Id, Kept};
 use crate::drafts::Draft;
 use crate::fields::{self, Form};
 use crate::trouble::Trouble;
 use shelf::library::{self, Verdict, LINE};
-use std::path::Path;
+use std::ffi::OsStr;
+use std::io::ErrorKind;
 
-/// Writes the house style of an accepted file to `target`. What the disk
-/// gives back must mean what the file meant, or nothing is put in place.
-/// Gives the verdict on what the disk gave back.
-pub fn write(
-    source: &[u8],
-    verdict: &Verdict,
-    house: &[u8],
-    target: &Path,
-    replace: bool,
-) -> Result<Verdict, Trouble> {
-    let mut draft = Draft::begin(target, replace)?;
-    draft.add(house)?;
-    draft.flush()?;
-    let again = compare(source, verdict, &draft.read_back()?).map_err(|what| {
-        let what = format!("not put in place, since what was written {what}");
-        Trouble::about(target, what)
-    })?;
-    draft.place(replace)?;
-    Ok(again)
+/// The rights of a file that takes over none: the user's mask does the rest.
+const ALL_MAY: u32 = 0o666;
+/// Those of one that takes them over in the end.
+const OWNER_ONLY: u32 = 0o600;
+
+/// An accepted file: as it stands, its verdict, and its house style.
+pub struct Accepted<'a> {
+    pub source: &'a [u8],
+    pub verdict: &'a Verdict,
+    pub house: &'a [u8],
 }
 
-/// Compares a file as written with what it was made from: counts, settled
-/// house style, and every record's meaning. Gives the verdict on what was
-/// written, or what is wrong with it.
-pub fn compare(source: &[u8], verdict: &Verdict, written: &[u8]) -> Result<Verdict, String> {
-    if written.len() != source.len() {
-        return Err(format!("has {} bytes, not {}", written.len(), source.len()));
-    }
-    let (again, settled) = library::rewrite(written);
-    if again != *verdict {
-        return Err("has other counts or is refused".to_string());
-    }
-    if settled != written {
-        return Err("is not in house style".to_string());
-    }
-    for number in 1..=(source.len() / LINE) as u32 {
-        if !same_meaning(source, written, number) {
-            return Err(format!("means something else in record {number}"));
+impl Accepted<'_> {
+    /// Writes the house style to `target`. What the disk gives back must mean
+    /// what the file meant, or nothing is put in place. Gives the verdict on
+    /// what the disk gave back, and which file it is; nothing if another was
+    /// there first.
+    pub fn write(
+        &self,
+        folder: &Folder,
+        target: &OsStr,
+        replace: bool,
+        kept: Option<Kept>,
+    ) -> Result<Option<(Verdict, Id)>, Trouble> {
+        let path = folder.named(target);
+        let on = || Trouble::on(&path);
+        let rights = kept.map_or(ALL_MAY, |_| OWNER_ONLY);
+        let mut draft = Draft::begin(folder, rights).map_err(on())?;
+        draft.add(self.house).map_err(on())?;
+        if let Some(kept) = kept {
+            draft.keep(kept).map_err(on())?;
+        }
+        draft.flush().map_err(on())?;
+        let written = draft.read_back().map_err(on())?;
+        let again = self.compare(&written).map_err(|what| {
+            let what = format!("not put in place, since what was written {what}");
+            Trouble::about(&path, what)
+        })?;
+        let id = draft.id().map_err(on())?;
+        match draft.place(target, replace) {
+            Err(error) if error.kind() == ErrorKind::AlreadyExists => Ok(None),
+            placed => placed.map_err(on()).map(|()| Some((again, id))),
         }
     }
-    Ok(again)
+
+    /// Compares a file as written with what it was made from: counts, settled
+    /// house style, and every record's meaning. Gives the verdict on what was
+    /// written, or what is wrong with it.
+    pub fn compare(&self, written: &[u8]) -> Result<Verdict, String> {
+        let Accepted {
+            source, verdict, ..
+        } = self;
+        if written.len() != source.len() {
+            return Err(format!("has {} bytes, not {}", written.len(), source.len()));
+        }
+        let (again, settled) = library::rewrite(written);
+        if again != **verdict {
+            return Err("has other counts or is refused".to_string());
+        }
+        if settled != written {
+            return Err("is not in house style".to_string());
+        }
+        for number in 1..=(source.len() / LINE) as u32 {
+            if !same_meaning(source, written, number) {
+                return Err(format!("means something else in record {number}"));
+            }
+        }
+        Ok(again)
+    }
 }
 
 /// The kind and every value from column 11 on; the sequence number has no
@@ -73,9 +103,19 @@ fn same_meaning(source: &[u8], written: &[u8], number: u32) -> bool {
 
 #[cfg(test)]
 mod tests {
-    use super::compare;
+    use super::Accepted;
     use shelf::library::{self, Verdict};
     use shelf::sample;
+
+    fn compare(source: &[u8], verdict: &Verdict, written: &[u8]) -> Result<Verdict, String> {
+        let house = &[];
+        let accepted = Accepted {
+            source,
+            verdict,
+            house,
+        };
+        accepted.compare(written)
+    }
 
     /// The house style of the sample with some columns of a record replaced.
     fn verdict_on(record: usize, first: usize, text: &str) -> Result<Verdict, String> {

@@ -6,14 +6,21 @@
 
 mod arguments;
 mod check;
+mod disk;
 mod drafts;
 mod fields;
+mod help;
 mod house;
 mod interrupt;
+mod json;
 mod ledger;
 mod load;
 mod moving;
 mod names;
+mod output;
+#[cfg(test)]
+mod pages;
+mod places;
 mod progress;
 mod report;
 mod rewrite;
@@ -24,15 +31,15 @@ mod trouble;
 mod walk;
 
 use arguments::Command;
-use shelf::library::IS_STANDIN;
+use output::Output;
 use status::Status;
-use std::io::{self, Write};
+use std::io::Write;
 use std::process::ExitCode;
 use trouble::Trouble;
 
 fn main() -> ExitCode {
     let done = arguments::parse(std::env::args_os().skip(1)).and_then(|command| {
-        let mut out = io::stdout().lock();
+        let mut out = Output::open().map_err(Trouble::standard_output)?;
         let status = run(command, &mut out)?;
         out.flush().map_err(Trouble::standard_output)?;
         Ok(status)
@@ -45,23 +52,16 @@ fn main() -> ExitCode {
 }
 
 fn run(command: Command, out: &mut dyn Write) -> Result<Status, Trouble> {
-    match command {
-        Command::Check { files } => check::run(&files, out),
-        Command::Sheet { file } => sheet::run(&file, out),
-        Command::Show { file, record } => show::run(&file, record, out),
-        Command::Rewrite { from, to, replace } => rewrite::run(&from, &to, replace, out),
-        Command::Move(order) => moving::run(&order, out),
-        Command::Help => help(out).map_err(Trouble::standard_output),
-    }
-}
-
-fn help(out: &mut dyn Write) -> io::Result<Status> {
-    out.write_all(arguments::USAGE.as_bytes())?;
-    if IS_STANDIN {
-        writeln!(
-            out,
-            "\nThis build goes by a stand-in for the proved library."
-        )?;
-    }
+    let done = match command {
+        Command::Check(order) => return check::run(&order, out),
+        Command::Sheet { file } => return sheet::run(&file, out),
+        Command::Show { file, record } => return show::run(&file, record, out),
+        Command::Rewrite(order) => return rewrite::run(&order, out),
+        Command::Move(order) => return moving::run(&order, out),
+        Command::Help(None) => help::overview(out),
+        Command::Help(Some(verb)) => help::page(out, verb),
+        Command::Version => help::version(out),
+    };
+    done.map_err(Trouble::standard_output)?;
     Ok(Status::Accepted)
 }

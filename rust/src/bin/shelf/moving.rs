@@ -2,143 +2,219 @@
 //! each accepted one in house style below NEW. Nothing below OLD is changed.
 
 use crate::arguments::Order;
-use crate::ledger::{Ledger, Outcome, Row, Rows, GROUPS};
-use crate::load::{load, Loaded};
+use crate::disk::{self, Folder, Id, Kept, Opened};
+use crate::house::Accepted;
+use crate::ledger::{self, Ledger, Outcome, Row, Rows, Unfinished, GROUPS};
+use crate::load::{self, Loaded};
+use crate::places::Places;
 use crate::progress::Progress;
 use crate::status::Status;
 use crate::trouble::Trouble;
-use crate::walk::{self, Entry, Sort};
-use crate::{drafts, house, interrupt, names, report};
+use crate::walk::{self, Entry, Found, Sort};
+use crate::{drafts, interrupt, names, report};
 use shelf::library::{self, Verdict};
-use std::collections::BTreeSet;
-use std::fs;
-use std::io::{self, ErrorKind, Write};
+use shelf::sha256::Digest;
+use std::ffi::OsStr;
+use std::io::{self, Read, Write};
 use std::path::{Path, PathBuf};
 
 pub fn run(order: &Order, out: &mut dyn Write) -> Result<Status, Trouble> {
-    interrupt::heed();
-    let new = apart(order)?;
-    let entries = walk::below(&order.old)?;
-    if entries.is_empty() {
+    let old = Folder::open(&order.old).map_err(Trouble::on(&order.old))?;
+    let found = walk::below(&old)?;
+    let mut places = Places::look(&order.new, &old, &found)?;
+    if found.entries.is_empty() {
         let what = "nothing to move: there is no file below it";
         return Err(Trouble::about(&order.old, what));
     }
-    ledger_is_apart(order, &new, &entries)?;
-    let mut ledger = Ledger::begin(&order.ledger, order.replace)?;
+    interrupt::heed();
+    let is_standard = ledger::is_standard(&order.ledger);
+    let mut error_output = io::stderr();
+    let (mut ledger, report): (Ledger, Option<&mut dyn Write>) = if is_standard {
+        (Ledger::on(out), None)
+    } else {
+        let ledger = Ledger::at(&order.ledger, order.replace, &found)?;
+        (ledger, Some(out))
+    };
+    if let Some(reserved) = ledger.reserved() {
+        is_apart(reserved, order, &found, &mut places)?;
+    }
+    ledger.titles()?;
     let mut mover = Mover {
         order,
-        new,
-        folders: BTreeSet::new(),
+        old,
+        last: None,
+        places,
     };
-    let mut progress = Progress::of(entries.len());
-    for entry in &entries {
-        ledger.add(mover.row(entry))?;
-        progress.step();
+    let (rows, ledger_trouble) = mover.all(&found.entries, ledger);
+    let report = report.unwrap_or(&mut error_output);
+    if let Some(trouble) = ledger_trouble {
+        trouble.tell();
+        without_ledger(&rows, report).map_err(Trouble::standard_output)?;
+        return Ok(Status::Trouble);
     }
-    progress.end();
-    // Once the ledger says so, the disk has it.
-    for folder in &mover.folders {
-        drafts::flush_folder(folder)?;
-    }
-    let rows = ledger.close(order.replace)?;
-    drafts::flush_folder(drafts::folder_of(&order.ledger))?;
-    tell(order, &rows, entries.len(), out)
+    let told = tell(order, &rows, found.entries.len(), report);
+    told.map_err(Trouble::standard_output)
 }
 
-/// Sees that neither folder is inside the other, where files would be judged
-/// that the move has just written. Gives the new folder's own path.
-fn apart(order: &Order) -> Result<PathBuf, Trouble> {
-    let old = fs::canonicalize(&order.old).map_err(Trouble::on(&order.old))?;
-    if !old.is_dir() {
-        return Err(Trouble::about(&order.old, "it is a file, not a folder"));
-    }
-    let new = resolved(&order.new).map_err(Trouble::on(&order.new))?;
-    if new.exists() && !new.is_dir() {
-        return Err(Trouble::about(&order.new, "it is a file, not a folder"));
-    }
-    if old.starts_with(&new) || new.starts_with(&old) {
-        let what = "the old and the new folder must be apart, neither in the other";
-        return Err(Trouble::about(&order.new, what));
-    }
-    Ok(new)
-}
-
-/// The ledger is no deposit, so it stands not below the old folder, nor where
-/// a file is to be written.
-fn ledger_is_apart(order: &Order, new: &Path, entries: &[Entry]) -> Result<(), Trouble> {
-    let path = &order.ledger;
-    let old = fs::canonicalize(&order.old).map_err(Trouble::on(&order.old))?;
-    let ledger = resolved(path).map_err(Trouble::on(path))?;
-    if ledger.starts_with(&old) {
-        let what = "the ledger must not stand below the old folder";
-        return Err(Trouble::about(path, what));
-    }
-    let taken = |name: &Path| entries.iter().any(|entry| entry.name == name);
-    if ledger.strip_prefix(new).is_ok_and(taken) {
-        let what = "the ledger would take the place of a file";
-        return Err(Trouble::about(path, what));
+/// The ledger takes no name that a moved file or folder will need.
+fn is_apart(
+    ledger: &Unfinished,
+    order: &Order,
+    found: &Found,
+    places: &mut Places,
+) -> Result<(), Trouble> {
+    let on = || Trouble::on(&order.ledger);
+    let own = ledger.folder.id().map_err(on())?;
+    let files = found.entries.iter().map(|entry| &entry.name);
+    for name in files.chain(found.folders.keys()) {
+        let (folder, part) = disk::apart(name);
+        // What cannot be opened there is that file's own trouble.
+        let there = places.folder(folder).ok().flatten();
+        let is_there = there.and_then(|folder| folder.id().ok()) == Some(own);
+        if is_there && !part.is_empty() && ledger.is_named(part).map_err(on())? {
+            let what = "the ledger would take the place of a file";
+            return Err(Trouble::about(&order.ledger, what));
+        }
     }
     Ok(())
 }
 
-/// A path without links and dots; its last parts need not be there yet.
-fn resolved(path: &Path) -> io::Result<PathBuf> {
-    match fs::canonicalize(path) {
-        Err(error) if error.kind() == ErrorKind::NotFound => match path.file_name() {
-            Some(name) => Ok(resolved(drafts::folder_of(path))?.join(name)),
-            None => Err(error),
-        },
-        other => other,
-    }
-}
-
-/// What a file holds, if it is these bytes. Only regular files are opened: a
-/// pipe would keep the reader waiting.
-fn holding(path: &Path, bytes: &[u8]) -> Option<Vec<u8>> {
-    let known = fs::symlink_metadata(path).ok()?;
-    if !known.is_file() || known.len() != bytes.len() as u64 {
-        return None;
-    }
-    fs::read(path).ok().filter(|there| there == bytes)
-}
-
 struct Mover<'a> {
     order: &'a Order,
-    /// The new folder's own path.
-    new: PathBuf,
-    /// Those that files were written into.
-    folders: BTreeSet<PathBuf>,
+    old: Folder,
+    /// The old folder that was opened last.
+    last: Option<(PathBuf, Folder)>,
+    places: Places<'a>,
 }
 
 impl Mover<'_> {
+    /// Judges and moves all, looks at all that was moved once more, and
+    /// closes the ledger. A ledger that cannot be written ends the run.
+    fn all(&mut self, entries: &[Entry], mut ledger: Ledger) -> (Rows, Option<Trouble>) {
+        self.tidy();
+        let mut rows = Rows::default();
+        let mut written = Ok(());
+        let mut progress = Progress::of(entries.len());
+        for entry in entries {
+            let row = match &written {
+                Ok(()) if !interrupt::asked() => self.row(entry),
+                _ => Row::new(&entry.name, Outcome::NotReached),
+            };
+            written = written.and_then(|()| ledger.add(&row));
+            rows.0.push(row);
+            progress.step();
+        }
+        progress.end();
+        let finished = self.finish(&rows);
+        let lost = self.lost(&mut rows);
+        let closed = written
+            .and_then(|()| lost.iter().try_for_each(|row| ledger.add(row)))
+            .and(finished)
+            .and_then(|()| ledger.close(&rows, self.order.replace));
+        (rows, closed.err())
+    }
+
+    fn tidy(&mut self) {
+        if self.order.dry_run {
+            return;
+        }
+        for draft in self.places.tidy() {
+            let what = "left by a run that was cut short, removed";
+            Trouble::about(&draft, what).tell();
+        }
+    }
+
+    /// Once the ledger says that a file is there, the disk has it.
+    fn finish(&mut self, rows: &Rows) -> Result<(), Trouble> {
+        if self.order.dry_run {
+            return Ok(());
+        }
+        let moved: Vec<&Path> = rows.moved().map(|row| row.name.as_path()).collect();
+        self.places.finish(&moved)
+    }
+
+    /// Looks at everything that was moved once more. What is not there as it
+    /// was verified is lost, and its row says so from now on.
+    fn lost(&mut self, rows: &mut Rows) -> Vec<Row> {
+        self.places.begin_last_look();
+        let mut lost = Vec::new();
+        for row in &mut rows.0 {
+            let (Outcome::Moved | Outcome::ThereAlready, Some(digest)) =
+                (&row.outcome, row.digest_out)
+            else {
+                continue;
+            };
+            if let Err(trouble) = self.places.look_again(&row.name, digest) {
+                *row = row.failed(format!("at the last look: {trouble}"));
+                lost.push(row.clone());
+            }
+        }
+        lost
+    }
+
     /// Judges and moves one, and says what became of it.
     fn row(&mut self, entry: &Entry) -> Row {
         let outcome = match &entry.sort {
-            _ if interrupt::asked() => Outcome::NotReached,
             Sort::Other(why) => Outcome::NotJudged(why),
             Sort::Shut(trouble) => Outcome::Failed(trouble.to_string()),
-            Sort::File => match load(&self.order.old.join(&entry.name)) {
-                Ok(loaded) => return self.judged(&entry.name, &loaded),
+            Sort::File => match self.loaded(&entry.name) {
+                Ok(Source::Loaded(loaded, digest, kept)) => {
+                    let mut row = self.judged(&entry.name, &loaded, kept);
+                    row.records_in = loaded.records();
+                    row.digest_in = Some(digest);
+                    return row;
+                }
+                Ok(Source::Not(outcome)) => outcome,
                 Err(trouble) => Outcome::Failed(trouble.to_string()),
             },
         };
-        Row::new(&entry.name, 0, outcome)
+        Row::new(&entry.name, outcome)
     }
 
-    fn judged(&mut self, name: &Path, loaded: &Loaded) -> Row {
-        let (verdict, rewritten) = library::rewrite(&loaded.bytes);
-        let mut row = Row::new(name, loaded.records(), Outcome::Refused(verdict.fault));
-        if verdict.is_accepted() {
-            match self.written(name, &loaded.bytes, &verdict, &rewritten) {
-                Ok((outcome, written)) => {
-                    row.outcome = outcome;
-                    row.counts = written.counts;
-                    row.records_out = written.counts.iter().copied().map(u64::from).sum();
-                }
-                Err(trouble) => row.outcome = Outcome::Failed(trouble.to_string()),
-            }
+    /// Opens a file below the old folder, step by step, and reads it. It may
+    /// have become something else since it was found.
+    fn loaded(&mut self, name: &Path) -> Result<Source, Trouble> {
+        let path = self.order.old.join(name);
+        let on = || Trouble::on(&path);
+        let (folder, part) = disk::apart(name);
+        if self.last.as_ref().is_none_or(|(last, _)| last != folder) {
+            let opened = self.old.below(folder).map_err(on())?;
+            self.last = Some((folder.to_path_buf(), opened));
         }
-        row
+        let folder = self.last.as_ref().map_or(&self.old, |(_, folder)| folder);
+        let (mut file, known) = match folder.file(part).map_err(on())? {
+            Opened::File(file, known) => (file, known),
+            Opened::Other(what) => return Ok(Source::Not(Outcome::NotJudged(what))),
+        };
+        let read = load::load_and_digest(&mut file, &known, interrupt::asked);
+        Ok(match read.map_err(on())? {
+            Some((loaded, digest)) => Source::Loaded(loaded, digest, Kept::of(&known)),
+            None => Source::Not(Outcome::NotReached),
+        })
+    }
+
+    fn judged(&mut self, name: &Path, loaded: &Loaded, kept: Kept) -> Row {
+        let (verdict, house) = library::rewrite(&loaded.bytes);
+        if !verdict.is_accepted() {
+            return Row::new(name, Outcome::Refused(verdict.fault));
+        }
+        let accepted = Accepted {
+            source: &loaded.bytes,
+            verdict: &verdict,
+            house: &house,
+        };
+        match self.written(name, &accepted, kept) {
+            Ok((outcome, written)) => Row {
+                counts: written.counts,
+                records_out: match outcome {
+                    Outcome::NotWritten => 0,
+                    _ => written.counts.iter().copied().map(u64::from).sum(),
+                },
+                digest_out: Some(Digest::of(&house)),
+                ..Row::new(name, outcome)
+            },
+            Err(trouble) => Row::new(name, Outcome::Failed(trouble.to_string())),
+        }
     }
 
     /// Sees that the house style of an accepted file stands below the new
@@ -146,61 +222,114 @@ impl Mover<'_> {
     fn written(
         &mut self,
         name: &Path,
-        source: &[u8],
-        verdict: &Verdict,
-        house: &[u8],
+        accepted: &Accepted,
+        kept: Kept,
     ) -> Result<(Outcome, Verdict), Trouble> {
-        let target = self.order.new.join(name);
-        self.folder_for(&target)?;
-        if let Some(there) = holding(&target, house) {
-            let written = house::compare(source, verdict, &there)
-                .map_err(|what| Trouble::about(&target, format!("what is there {what}")))?;
-            return Ok((Outcome::ThereAlready, written));
+        let (folder, part) = disk::apart(name);
+        let replace = self.order.replace;
+        let target = match self.order.dry_run {
+            false => Some(self.places.made(folder)?.again()),
+            true => self.places.folder(folder)?.map(Folder::again),
+        };
+        let Some(target) = target.transpose().map_err(Trouble::on(name))? else {
+            return Ok((Outcome::NotWritten, *accepted.verdict));
+        };
+        let shown = target.named(part);
+        if let Some(there) = target.find(part).map_err(Trouble::on(&shown))? {
+            self.places.is_free(Id::of(&there), name)?;
         }
-        let written = house::write(source, verdict, house, &target, self.order.replace)?;
-        Ok((Outcome::Moved, written))
+        if let Some(already) = self.there(name, &target, part, accepted)? {
+            return Ok(already);
+        }
+        drafts::is_free(&target, part, replace)?;
+        if self.order.dry_run {
+            return Ok((Outcome::NotWritten, *accepted.verdict));
+        }
+        match accepted.write(&target, part, replace, Some(kept))? {
+            Some((written, id)) => {
+                self.places.take(id, name)?;
+                Ok((Outcome::Moved, written))
+            }
+            // Another run was first; if it moved the same file, all is well.
+            None => {
+                let already = self.there(name, &target, part, accepted)?;
+                already.ok_or_else(|| drafts::is_there(&shown))
+            }
+        }
     }
 
-    /// Makes the folder of a file. A link in the new folder must not lead
-    /// out of it: it might lead to the old one.
-    fn folder_for(&mut self, target: &Path) -> Result<(), Trouble> {
-        let folder = drafts::folder_of(target);
-        fs::create_dir_all(folder).map_err(Trouble::on(folder))?;
-        let own = fs::canonicalize(folder).map_err(Trouble::on(folder))?;
-        if !own.starts_with(&self.new) {
-            return Err(Trouble::about(folder, "it leads out of the new folder"));
+    /// What stands under a name already, if it is the file's house style.
+    fn there(
+        &mut self,
+        name: &Path,
+        target: &Folder,
+        part: &OsStr,
+        accepted: &Accepted,
+    ) -> Result<Option<(Outcome, Verdict)>, Trouble> {
+        // A file that cannot be read is another one for all that is known.
+        let Ok(Opened::File(mut file, known)) = target.file(part) else {
+            return Ok(None);
+        };
+        let mut bytes = Vec::new();
+        if known.len() != accepted.house.len() as u64
+            || file.read_to_end(&mut bytes).is_err()
+            || bytes != accepted.house
+        {
+            return Ok(None);
         }
-        self.folders.insert(own);
-        Ok(())
+        let written = accepted
+            .compare(&bytes)
+            .map_err(|what| Trouble::about(&target.named(part), format!("what is there {what}")))?;
+        self.places.take(Id::of(&known), name)?;
+        Ok(Some((Outcome::ThereAlready, written)))
     }
+}
+
+/// A file below the old folder, at its turn.
+enum Source {
+    Loaded(Loaded, Digest, Kept),
+    Not(Outcome),
 }
 
 /// Names what was not moved, gives the totals, and claims success only where
 /// the rows bear it out.
-fn tell(order: &Order, rows: &Rows, files: usize, out: &mut dyn Write) -> Result<Status, Trouble> {
-    for row in rows.iter() {
-        not_moved(row, out).map_err(Trouble::standard_output)?;
+fn tell(order: &Order, rows: &Rows, files: usize, out: &mut dyn Write) -> io::Result<Status> {
+    for row in &rows.0 {
+        not_moved(row, out)?;
     }
     let [accepted, refused, not_judged, failed] = GROUPS.map(|(group, _)| rows.total(group));
     let old = names::shown(&order.old);
-    let counted = format!(
-        "{files} files below {old}: {} accepted, {} refused, {} not judged, {} failed",
-        accepted.files, refused.files, not_judged.files, failed.files
-    );
-    writeln!(out, "{counted}").map_err(Trouble::standard_output)?;
-    if interrupt::asked() {
-        Trouble::new("interrupted: the ledger says which files were not reached").tell();
+    if !order.quiet {
+        writeln!(
+            out,
+            "{files} files below {old}: {} accepted, {} refused, {} not judged, {} failed",
+            accepted.files, refused.files, not_judged.files, failed.files
+        )?;
+    }
+    let not_reached = |row: &&Row| matches!(row.outcome, Outcome::NotReached);
+    let not_reached = rows.0.iter().filter(not_reached).count();
+    if not_reached > 0 {
+        let why = if interrupt::asked() {
+            "interrupted: "
+        } else {
+            ""
+        };
+        let what = format!("{why}{not_reached} files were not reached: the ledger names them");
+        Trouble::new(what).tell();
     }
     if failed.files > 0 || !rows.balances(files) {
         Trouble::new("not every file could be judged and moved: see the ledger").tell();
         return Ok(Status::Trouble);
     }
-    writeln!(
-        out,
-        "every accepted file moved: {} records in, {} records out",
-        accepted.records_in, accepted.records_out
-    )
-    .map_err(Trouble::standard_output)?;
+    if !order.quiet && order.dry_run {
+        writeln!(out, "a dry run: nothing was written but the ledger")?;
+    } else if !order.quiet {
+        writeln!(
+            out,
+            "every accepted file moved: {} records in, {} records out",
+            accepted.records_in, accepted.records_out
+        )?;
+    }
     if refused.files + not_judged.files > 0 {
         return Ok(Status::Refused);
     }
@@ -208,17 +337,38 @@ fn tell(order: &Order, rows: &Rows, files: usize, out: &mut dyn Write) -> Result
 }
 
 fn not_moved(row: &Row, out: &mut dyn Write) -> io::Result<()> {
+    let name = names::shown(&row.name);
     match &row.outcome {
-        Outcome::Moved | Outcome::ThereAlready => Ok(()),
+        Outcome::Moved | Outcome::ThereAlready | Outcome::NotWritten => Ok(()),
+        // One line stands for all of them.
+        Outcome::NotReached => Ok(()),
         Outcome::Refused(fault) => writeln!(
             out,
-            "{}: refused, fault {}, record {}, column {}: {}",
-            row.name,
+            "{name}: refused, fault {}, record {}, column {}: {}",
             fault.number,
             fault.record,
             fault.column,
             report::meaning(*fault)
         ),
-        other => writeln!(out, "{}: {}", row.name, other.in_words()),
+        other => writeln!(out, "{name}: {}", other.in_words()),
     }
+}
+
+/// What was moved is said even where no ledger says it, on the error output
+/// too.
+fn without_ledger(rows: &Rows, out: &mut dyn Write) -> io::Result<()> {
+    let moved: Vec<String> = rows.moved().map(|row| names::shown(&row.name)).collect();
+    let all = rows.0.len();
+    let what = format!(
+        "the ledger is not finished; {} of {all} files were moved",
+        moved.len()
+    );
+    Trouble::new(&what).tell();
+    for name in &moved {
+        Trouble::new(format!("moved: {name}")).tell();
+    }
+    writeln!(out, "{what}")?;
+    moved
+        .iter()
+        .try_for_each(|name| writeln!(out, "moved: {name}"))
 }

@@ -77,7 +77,7 @@ pub fn refused(out: &mut dyn Write, path: &Path, file: &[u8], fault: Fault) -> i
 }
 
 /// The meaning of a fault, with what can be said of this one.
-fn explained(file: &[u8], fault: Fault) -> String {
+pub fn explained(file: &[u8], fault: Fault) -> String {
     let line = line(file, fault.record);
     let detail = match fault.number {
         3 => Some(format!("it has {} bytes", fault.column - 1)),

@@ -1,7 +1,11 @@
 //! Every file below a folder.
 
+use crate::disk::{self, Folder, Id, Kept};
+use crate::drafts;
 use crate::trouble::Trouble;
-use std::fs::{self, FileType};
+use std::collections::{BTreeMap, HashMap};
+use std::ffi::OsString;
+use std::fs::FileType;
 use std::io;
 use std::path::{Path, PathBuf};
 
@@ -21,54 +25,77 @@ pub enum Sort {
     Shut(Trouble),
 }
 
-/// All entries below a folder, in the order of their names. Links are not
-/// followed: what they lead to may lie elsewhere, or be met twice.
-pub fn below(folder: &Path) -> Result<Vec<Entry>, Trouble> {
-    let mut entries = Vec::new();
+/// What stands below a folder.
+#[derive(Default)]
+pub struct Found {
+    /// In the order of their names.
+    pub entries: Vec<Entry>,
+    /// The folder itself, by an empty name, and every folder below it.
+    pub folders: BTreeMap<PathBuf, Kept>,
+    ids: HashMap<Id, PathBuf>,
+}
+
+impl Found {
+    /// Whether it is the folder or one below it, under whatever name.
+    pub fn has(&self, folder: Id) -> bool {
+        self.ids.contains_key(&folder)
+    }
+}
+
+/// All entries below a folder. Links are not followed: what they lead to may
+/// lie elsewhere, or be met twice.
+pub fn below(root: &Folder) -> Result<Found, Trouble> {
+    let mut found = Found::default();
     let mut folders = vec![PathBuf::new()];
     while let Some(name) = folders.pop() {
-        let path = folder.join(&name);
-        match names_in(&path) {
-            Ok(found) => {
-                for (part, kind) in found {
-                    let name = name.join(part);
+        match names_in(root, &name, &mut found) {
+            Ok(names) => {
+                for (part, kind) in names {
+                    let name = name.join(&part);
                     if kind.is_dir() {
                         folders.push(name);
                     } else {
-                        let sort = sort_of(kind);
-                        entries.push(Entry { name, sort });
+                        let sort = sort_of(&part, kind);
+                        found.entries.push(Entry { name, sort });
                     }
                 }
             }
-            Err(error) => {
-                let trouble = Trouble::on(&path)(error);
-                if name.as_os_str().is_empty() {
-                    return Err(trouble);
-                }
-                let sort = Sort::Shut(trouble);
-                entries.push(Entry { name, sort });
-            }
+            Err(sort) if !name.as_os_str().is_empty() => found.entries.push(Entry { name, sort }),
+            Err(Sort::Shut(trouble)) => return Err(trouble),
+            Err(_) => return Err(Trouble::about(root.path(), "it cannot be looked into")),
         }
     }
-    entries.sort_by(|one, other| one.name.cmp(&other.name));
-    Ok(entries)
+    found
+        .entries
+        .sort_by(|one, other| one.name.cmp(&other.name));
+    Ok(found)
 }
 
-fn names_in(folder: &Path) -> io::Result<Vec<(PathBuf, FileType)>> {
-    fs::read_dir(folder)?
-        .map(|entry| {
-            let entry = entry?;
-            Ok((entry.file_name().into(), entry.file_type()?))
-        })
-        .collect()
+/// Looks into one folder, unless it was met under another name: a folder
+/// mounted below itself would never come to an end.
+fn names_in(
+    root: &Folder,
+    name: &Path,
+    found: &mut Found,
+) -> Result<Vec<(OsString, FileType)>, Sort> {
+    let shut = |error: io::Error| Sort::Shut(Trouble::on(&root.path().join(name))(error));
+    let folder = root.below(name).map_err(shut)?;
+    let known = folder.known().map_err(shut)?;
+    if found.has(Id::of(&known)) {
+        return Err(Sort::Other("a folder that was met under another name"));
+    }
+    let names = folder.names().map_err(shut)?;
+    found.ids.insert(Id::of(&known), name.to_path_buf());
+    found.folders.insert(name.to_path_buf(), Kept::of(&known));
+    Ok(names)
 }
 
-fn sort_of(kind: FileType) -> Sort {
-    if kind.is_file() {
-        Sort::File
-    } else if kind.is_symlink() {
-        Sort::Other("a symbolic link, not followed")
+fn sort_of(name: &std::ffi::OsStr, kind: FileType) -> Sort {
+    if !kind.is_file() {
+        Sort::Other(disk::other(kind))
+    } else if drafts::is_draft(name) {
+        Sort::Other("a draft that a run left when it was cut short")
     } else {
-        Sort::Other("no regular file")
+        Sort::File
     }
 }
