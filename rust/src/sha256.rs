@@ -118,6 +118,15 @@ macro_rules! round {
 
 /// Takes in whole blocks.
 fn take_in(state: &mut [u32; 8], blocks: &[u8]) {
+    #[cfg(target_arch = "x86_64")]
+    if instructions::are_there() {
+        // Safe, since the processor was asked.
+        return unsafe { instructions::take_in(state, blocks) };
+    }
+    take_in_by_words(state, blocks);
+}
+
+fn take_in_by_words(state: &mut [u32; 8], blocks: &[u8]) {
     for block in blocks.chunks_exact(BLOCK) {
         let words = schedule(block);
         let [mut a, mut b, mut c, mut d, mut e, mut f, mut g, mut h] = *state;
@@ -158,9 +167,66 @@ fn schedule(block: &[u8]) -> [u32; 64] {
     words
 }
 
+/// The same by the processor's own instructions for it, some five times as
+/// fast: every moved file has three digests taken.
+#[cfg(target_arch = "x86_64")]
+mod instructions {
+    use super::{BLOCK, ROUNDS};
+    use std::arch::is_x86_feature_detected;
+    use std::arch::x86_64::*;
+
+    pub fn are_there() -> bool {
+        is_x86_feature_detected!("sha")
+            && is_x86_feature_detected!("ssse3")
+            && is_x86_feature_detected!("sse4.1")
+    }
+
+    #[target_feature(enable = "sha,ssse3,sse4.1")]
+    pub fn take_in(state: &mut [u32; 8], blocks: &[u8]) {
+        let from_big_end = _mm_set_epi64x(0x0c0d0e0f_08090a0b, 0x04050607_00010203);
+        // The instructions want the words as a b e f and c d g h.
+        let [a, b, c, d, e, f, g, h] = state.map(|word| word as i32);
+        let mut abef = _mm_set_epi32(a, b, e, f);
+        let mut cdgh = _mm_set_epi32(c, d, g, h);
+        for block in blocks.chunks_exact(BLOCK) {
+            let begun = (abef, cdgh);
+            let mut words = [0, 16, 32, 48].map(|at| {
+                let four = load(&block[at..at + 16]);
+                _mm_shuffle_epi8(four, from_big_end)
+            });
+            for (turn, rounds) in ROUNDS.chunks_exact(4).enumerate() {
+                let [now, one, two, three] = [0, 1, 2, 3].map(|ahead| (turn + ahead) % 4);
+                let [w, x, y, z] = [rounds[0], rounds[1], rounds[2], rounds[3]];
+                let rounds = _mm_set_epi32(z as i32, y as i32, x as i32, w as i32);
+                let sum = _mm_add_epi32(words[now], rounds);
+                cdgh = _mm_sha256rnds2_epu32(cdgh, abef, sum);
+                abef = _mm_sha256rnds2_epu32(abef, cdgh, _mm_shuffle_epi32(sum, 0x0e));
+                // The words of four turns later, in the place of these.
+                let far = _mm_sha256msg1_epu32(words[now], words[one]);
+                let far = _mm_add_epi32(far, _mm_alignr_epi8(words[three], words[two], 4));
+                words[now] = _mm_sha256msg2_epu32(far, words[three]);
+            }
+            abef = _mm_add_epi32(abef, begun.0);
+            cdgh = _mm_add_epi32(cdgh, begun.1);
+        }
+        let low = |pair| _mm_cvtsi128_si64(pair) as u64;
+        let high = |pair| low(_mm_unpackhi_epi64(pair, pair));
+        let halves = |pair: u64| [(pair >> 32) as u32, pair as u32];
+        let ([a, b], [e, f]) = (halves(high(abef)), halves(low(abef)));
+        let ([c, d], [g, h]) = (halves(high(cdgh)), halves(low(cdgh)));
+        *state = [a, b, c, d, e, f, g, h];
+    }
+
+    #[target_feature(enable = "sse2")]
+    fn load(bytes: &[u8]) -> __m128i {
+        let word = |at: usize| i64::from_le_bytes(bytes[at..at + 8].try_into().unwrap());
+        _mm_set_epi64x(word(8), word(0))
+    }
+}
+
 #[cfg(test)]
 mod tests {
-    use super::{Digest, Hasher};
+    use super::{take_in, take_in_by_words, Digest, Hasher, BEGIN};
 
     /// The examples published with the standard.
     #[test]
@@ -195,6 +261,18 @@ mod tests {
             let mut hasher = Hasher::new();
             bytes.chunks(size).for_each(|part| hasher.add(part));
             assert_eq!(hasher.digest(), Digest::of(&bytes), "{size}");
+        }
+    }
+
+    /// Whichever way the processor has, the other gives the same.
+    #[test]
+    fn both_ways_agree() {
+        let bytes: Vec<u8> = (0..64 * 50u32).map(|number| (number * 31) as u8).collect();
+        for blocks in [0, 1, 2, 7, 50] {
+            let (mut one, mut other) = (BEGIN, BEGIN);
+            take_in(&mut one, &bytes[..64 * blocks]);
+            take_in_by_words(&mut other, &bytes[..64 * blocks]);
+            assert_eq!(one, other, "{blocks}");
         }
     }
 }

@@ -1,10 +1,12 @@
 //! `shelf move`: what is moved, what is left, what is refused to be done.
 
 use crate::desk::{house, Desk};
+use crate::held::terminal;
 use shelf::{generate, sample};
 use std::fs::{self, File, Permissions};
+use std::io::Read;
 use std::os::unix::fs::{symlink, MetadataExt, PermissionsExt};
-use std::process::Command;
+use std::process::{Command, Stdio};
 use std::time::{Duration, UNIX_EPOCH};
 
 const MOVE: [&str; 5] = ["move", "old", "new", "--ledger", "ledger.tsv"];
@@ -311,4 +313,31 @@ fn rights_and_times_are_kept() {
     assert_eq!(known("b").mode(), rights);
     assert!(known("b").modified().unwrap() >= before);
     assert!(known("").modified().unwrap() >= before);
+}
+
+#[test]
+fn a_terminal_shows_how_far_it_is() {
+    let desk = Desk::new("move-terminal");
+    desk.put("old/one.b", &sample::file());
+    desk.put("old/two.b", &sample::file());
+    for (ledger, quiet, shown) in [
+        ("one.tsv", &[][..], "2 of 2 files\r"),
+        ("two.tsv", &["--quiet"], ""),
+    ] {
+        let (mut ours, theirs) = terminal();
+        let mut command = desk.command(&[&again(ledger)[..], quiet].concat());
+        let status = command
+            .stdout(Stdio::null())
+            .stderr(theirs)
+            .status()
+            .unwrap();
+        assert!(status.success());
+        drop(command);
+        let mut said = Vec::new();
+        // With nobody left on the other side the end of a terminal is an
+        // error.
+        let _ = ours.read_to_end(&mut said);
+        assert!(String::from_utf8_lossy(&said).starts_with(shown));
+        assert_eq!(said.is_empty(), shown.is_empty());
+    }
 }

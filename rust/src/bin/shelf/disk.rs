@@ -20,6 +20,8 @@ const NO_WAIT: i32 = 0o4_000;
 
 /// Read, write and search for owner, group and others.
 const RIGHTS: u32 = 0o777;
+/// These, and those that let a program run as another user.
+const ALL_BITS: u32 = 0o7777;
 /// Without these the owner could not put anything into a folder.
 const OWNER_WORKS: u32 = 0o700;
 /// Without this the owner could not look at a file again.
@@ -54,6 +56,11 @@ impl Kept {
             rights: known.mode() & RIGHTS,
             modified: known.modified().ok(),
         }
+    }
+
+    /// Those of a file that was written: its owner can read it.
+    pub fn rights(&self) -> u32 {
+        self.rights | OWNER_READS
     }
 }
 
@@ -280,18 +287,20 @@ impl Folder {
     }
 
     pub fn keep(&self, kept: Kept) -> io::Result<()> {
-        set(&self.open, kept, 0)
+        set(&self.open, kept.rights, kept.modified)
     }
 }
 
 /// Gives a file that was written the rights and the time of its source.
 pub fn keep(file: &File, kept: Kept) -> io::Result<()> {
-    set(file, kept, OWNER_READS)
+    set(file, kept.rights(), kept.modified)
 }
 
-fn set(file: &File, kept: Kept, always: u32) -> io::Result<()> {
-    file.set_permissions(Permissions::from_mode(kept.rights | always))?;
-    match kept.modified {
+fn set(file: &File, rights: u32, modified: Option<SystemTime>) -> io::Result<()> {
+    if file.metadata()?.mode() & ALL_BITS != rights {
+        file.set_permissions(Permissions::from_mode(rights))?;
+    }
+    match modified {
         Some(modified) => file.set_modified(modified),
         None => Ok(()),
     }
@@ -311,11 +320,16 @@ pub fn apart(path: &Path) -> (&Path, &OsStr) {
     (folder, path.file_name().unwrap_or_default())
 }
 
-/// Reads a file up to so many bytes.
-pub fn read_up_to(file: &mut File, most: usize) -> io::Result<Vec<u8>> {
-    let length = usize::try_from(file.metadata()?.len()).unwrap_or(most);
+/// Reads a file up to so many bytes. Its length is known, so that no room has
+/// to be looked for.
+pub fn read_up_to(file: &mut File, known: &Metadata, most: usize) -> io::Result<Vec<u8>> {
+    let length = usize::try_from(known.len()).unwrap_or(most);
     // One more, so that the end is found without asking for more room.
     let mut bytes = Vec::with_capacity(length.min(most) + 1);
     file.take(most as u64).read_to_end(&mut bytes)?;
     Ok(bytes)
+}
+
+pub fn read_all(file: &mut File, known: &Metadata) -> io::Result<Vec<u8>> {
+    read_up_to(file, known, usize::MAX)
 }

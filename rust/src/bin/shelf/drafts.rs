@@ -5,7 +5,7 @@ use crate::disk::{self, Folder, Id, Kept, Opened};
 use crate::trouble::Trouble;
 use std::ffi::{OsStr, OsString};
 use std::fs::{self, File};
-use std::io::{self, ErrorKind, Read, Seek, Write};
+use std::io::{self, ErrorKind, Seek, Write};
 use std::os::unix::fs::MetadataExt;
 use std::path::Path;
 use std::process;
@@ -32,6 +32,8 @@ pub struct Draft<'a> {
     folder: &'a Folder,
     name: OsString,
     file: File,
+    id: Id,
+    is_placed: bool,
 }
 
 impl Draft<'_> {
@@ -41,8 +43,18 @@ impl Draft<'_> {
             let name = OsString::from(format!("{BEGIN}{}-{number}{END}", process::id()));
             match folder.create(&name, rights) {
                 Ok(file) => {
-                    let draft = Draft { folder, name, file };
-                    if draft.is_held()? {
+                    let draft = Draft {
+                        folder,
+                        name,
+                        id: Id::of(&file.metadata()?),
+                        file,
+                        is_placed: false,
+                    };
+                    // Held, so that no other run takes it for one that was
+                    // left; one may have done so, and removed it, just before.
+                    // Where a disk has no locks, no run removes a draft.
+                    let _ = draft.file.lock();
+                    if folder.is_at(&draft.name, draft.id)? {
                         return Ok(draft);
                     }
                 }
@@ -53,16 +65,8 @@ impl Draft<'_> {
         Err(ErrorKind::AlreadyExists.into())
     }
 
-    /// Holds the draft, so that no other run takes it for one that was left.
-    /// One may have done so, and removed it, just before.
-    fn is_held(&self) -> io::Result<bool> {
-        // Where a disk has no locks, no run removes a draft either.
-        let _ = self.file.lock();
-        self.folder.is_at(&self.name, self.id()?)
-    }
-
-    pub fn id(&self) -> io::Result<Id> {
-        Ok(Id::of(&self.file.metadata()?))
+    pub fn id(&self) -> Id {
+        self.id
     }
 
     pub fn add(&mut self, bytes: &[u8]) -> io::Result<()> {
@@ -81,23 +85,25 @@ impl Draft<'_> {
 
     /// What the disk gives back of what was written.
     pub fn read_back(&mut self) -> io::Result<Vec<u8>> {
-        let mut bytes = Vec::new();
         self.file.rewind()?;
-        self.file.read_to_end(&mut bytes)?;
-        Ok(bytes)
+        let known = self.file.metadata()?;
+        disk::read_all(&mut self.file, &known)
     }
 
     /// Gives the file its name, in one step. Unless it may be replaced, a
     /// file that is there stays: `AlreadyExists`.
-    pub fn place(self, target: &OsStr, replace: bool) -> io::Result<()> {
-        self.folder.give_name(&self.name, target, replace)
+    pub fn place(mut self, target: &OsStr, replace: bool) -> io::Result<()> {
+        self.folder.give_name(&self.name, target, replace)?;
+        self.is_placed = true;
+        Ok(())
     }
 }
 
 impl Drop for Draft<'_> {
     fn drop(&mut self) {
-        // It is gone already if it was put in place.
-        let _ = self.folder.remove(&self.name);
+        if !self.is_placed {
+            let _ = self.folder.remove(&self.name);
+        }
     }
 }
 

@@ -11,8 +11,6 @@ use std::io::ErrorKind;
 
 /// The rights of a file that takes over none: the user's mask does the rest.
 const ALL_MAY: u32 = 0o666;
-/// Those of one that takes them over in the end.
-const OWNER_ONLY: u32 = 0o600;
 
 /// An accepted file: as it stands, its verdict, and its house style.
 pub struct Accepted<'a> {
@@ -35,7 +33,7 @@ impl Accepted<'_> {
     ) -> Result<Option<(Verdict, Id)>, Trouble> {
         let path = folder.named(target);
         let on = || Trouble::on(&path);
-        let rights = kept.map_or(ALL_MAY, |_| OWNER_ONLY);
+        let rights = kept.map_or(ALL_MAY, |kept| kept.rights());
         let mut draft = Draft::begin(folder, rights).map_err(on())?;
         draft.add(self.house).map_err(on())?;
         if let Some(kept) = kept {
@@ -47,7 +45,7 @@ impl Accepted<'_> {
             let what = format!("not put in place, since what was written {what}");
             Trouble::about(&path, what)
         })?;
-        let id = draft.id().map_err(on())?;
+        let id = draft.id();
         match draft.place(target, replace) {
             Err(error) if error.kind() == ErrorKind::AlreadyExists => Ok(None),
             placed => placed.map_err(on()).map(|()| Some((again, id))),

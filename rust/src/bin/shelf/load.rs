@@ -57,7 +57,7 @@ fn read(file: &mut File, known: &Metadata, most: usize) -> io::Result<Loaded> {
     if known.is_dir() {
         return Err(ErrorKind::IsADirectory.into());
     }
-    let bytes = disk::read_up_to(file, most)?;
+    let bytes = disk::read_up_to(file, known, most)?;
     // A pipe or device has no length but that of what it gave.
     let length = known.len().max(bytes.len() as u64);
     Ok(Loaded { bytes, length })

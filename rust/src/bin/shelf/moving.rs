@@ -15,7 +15,7 @@ use crate::{drafts, interrupt, names, report};
 use shelf::library::{self, Verdict};
 use shelf::sha256::Digest;
 use std::ffi::OsStr;
-use std::io::{self, Read, Write};
+use std::io::{self, Write};
 use std::path::{Path, PathBuf};
 
 pub fn run(order: &Order, out: &mut dyn Write) -> Result<Status, Trouble> {
@@ -94,7 +94,7 @@ impl Mover<'_> {
         self.tidy();
         let mut rows = Rows::default();
         let mut written = Ok(());
-        let mut progress = Progress::of(entries.len());
+        let mut progress = Progress::of(entries.len(), self.order.quiet);
         for entry in entries {
             let row = match &written {
                 Ok(()) if !interrupt::asked() => self.row(entry),
@@ -226,23 +226,25 @@ impl Mover<'_> {
         kept: Kept,
     ) -> Result<(Outcome, Verdict), Trouble> {
         let (folder, part) = disk::apart(name);
-        let replace = self.order.replace;
-        let target = match self.order.dry_run {
-            false => Some(self.places.made(folder)?.again()),
-            true => self.places.folder(folder)?.map(Folder::again),
+        let Order {
+            replace, dry_run, ..
+        } = *self.order;
+        let target = match dry_run {
+            false => Some(self.places.made(folder)?),
+            true => self.places.folder(folder)?,
         };
-        let Some(target) = target.transpose().map_err(Trouble::on(name))? else {
+        let Some(target) = target else {
             return Ok((Outcome::NotWritten, *accepted.verdict));
         };
         let shown = target.named(part);
         if let Some(there) = target.find(part).map_err(Trouble::on(&shown))? {
             self.places.is_free(Id::of(&there), name)?;
+            if let Some(already) = self.there(name, &target, part, accepted)? {
+                return Ok(already);
+            }
+            drafts::is_free(&target, part, replace)?;
         }
-        if let Some(already) = self.there(name, &target, part, accepted)? {
-            return Ok(already);
-        }
-        drafts::is_free(&target, part, replace)?;
-        if self.order.dry_run {
+        if dry_run {
             return Ok((Outcome::NotWritten, *accepted.verdict));
         }
         match accepted.write(&target, part, replace, Some(kept))? {
@@ -270,11 +272,8 @@ impl Mover<'_> {
         let Ok(Opened::File(mut file, known)) = target.file(part) else {
             return Ok(None);
         };
-        let mut bytes = Vec::new();
-        if known.len() != accepted.house.len() as u64
-            || file.read_to_end(&mut bytes).is_err()
-            || bytes != accepted.house
-        {
+        let bytes = disk::read_all(&mut file, &known).unwrap_or_default();
+        if bytes != accepted.house {
             return Ok(None);
         }
         let written = accepted

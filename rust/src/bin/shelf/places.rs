@@ -9,8 +9,9 @@ use crate::{drafts, names};
 use shelf::sha256::Digest;
 use std::collections::{BTreeMap, BTreeSet, HashMap};
 use std::ffi::{OsStr, OsString};
-use std::io::{ErrorKind, Read};
+use std::io::ErrorKind;
 use std::path::{Path, PathBuf};
+use std::rc::Rc;
 
 /// The nearest folder that is there, and the names still to be made below it,
 /// down to the new folder.
@@ -26,7 +27,7 @@ pub struct Places<'a> {
     /// The new folder, once it is there.
     root: Option<Folder>,
     /// The folder that was opened last: the next file mostly stands there too.
-    last: Option<(PathBuf, Folder)>,
+    last: Option<(PathBuf, Rc<Folder>)>,
     /// Which moved file has a place.
     taken: HashMap<Id, PathBuf>,
 }
@@ -66,7 +67,7 @@ impl<'a> Places<'a> {
                 continue;
             }
             if let Ok(Some(folder)) = self.folder(folder) {
-                if drafts::remove_left(folder, name) {
+                if drafts::remove_left(&folder, name) {
                     removed.push(folder.named(name));
                 }
             }
@@ -75,12 +76,12 @@ impl<'a> Places<'a> {
     }
 
     /// A folder below the new one, if it is there.
-    pub fn folder(&mut self, name: &Path) -> Result<Option<&Folder>, Trouble> {
+    pub fn folder(&mut self, name: &Path) -> Result<Option<Rc<Folder>>, Trouble> {
         self.open(name, false)
     }
 
     /// A folder below the new one; made if it is not there.
-    pub fn made(&mut self, name: &Path) -> Result<&Folder, Trouble> {
+    pub fn made(&mut self, name: &Path) -> Result<Rc<Folder>, Trouble> {
         if self.root.is_none() {
             self.root = Some(self.ground.make(self.old)?);
         }
@@ -88,7 +89,7 @@ impl<'a> Places<'a> {
         folder.ok_or_else(|| Trouble::about(name, "it could not be made"))
     }
 
-    fn open(&mut self, name: &Path, make: bool) -> Result<Option<&Folder>, Trouble> {
+    fn open(&mut self, name: &Path, make: bool) -> Result<Option<Rc<Folder>>, Trouble> {
         if self.last.as_ref().is_none_or(|(last, _)| last != name) {
             let Some(root) = &self.root else {
                 return Ok(None);
@@ -102,9 +103,9 @@ impl<'a> Places<'a> {
                     None => return Ok(None),
                 }
             }
-            self.last = Some((name.to_path_buf(), folder));
+            self.last = Some((name.to_path_buf(), Rc::new(folder)));
         }
-        Ok(self.last.as_ref().map(|(_, folder)| folder))
+        Ok(self.last.as_ref().map(|(_, folder)| folder.clone()))
     }
 
     /// One step down, into a folder that is none of the old ones.
@@ -167,8 +168,7 @@ impl<'a> Places<'a> {
             Opened::Other(what) => return Err(Trouble::about(&shown, what)),
         };
         self.take(Id::of(&known), name)?;
-        let mut bytes = Vec::new();
-        file.read_to_end(&mut bytes).map_err(Trouble::on(&shown))?;
+        let bytes = disk::read_all(&mut file, &known).map_err(Trouble::on(&shown))?;
         if Digest::of(&bytes) != digest {
             let what = "it no longer holds what was verified";
             return Err(Trouble::about(&shown, what));

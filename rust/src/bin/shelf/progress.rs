@@ -13,16 +13,18 @@ pub struct Progress {
     done: usize,
     last: Instant,
     on_terminal: bool,
+    quiet: bool,
     shown: bool,
 }
 
 impl Progress {
-    pub fn of(all: usize) -> Progress {
+    pub fn of(all: usize, quiet: bool) -> Progress {
         Progress {
             all,
             done: 0,
             last: Instant::now(),
             on_terminal: io::stderr().is_terminal(),
+            quiet,
             shown: false,
         }
     }
@@ -35,7 +37,9 @@ impl Progress {
         } else {
             ELSEWHERE
         };
-        if self.last.elapsed() < pause {
+        // A terminal's line says at the end how many there were.
+        let is_due = self.last.elapsed() >= pause || self.on_terminal && self.done == self.all;
+        if self.quiet || !is_due {
             return;
         }
         self.last = Instant::now();
