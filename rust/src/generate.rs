@@ -66,17 +66,24 @@ struct Plan {
     last_accuracy: bool,
 }
 
+impl Plan {
+    /// A file of [`FEWEST`] records.
+    fn shortest() -> Plan {
+        Plan {
+            title_more: false,
+            groups: vec![(0, false)],
+            instruments: 1,
+            antennas: 1,
+            points: 1,
+            network: 0,
+            local: 0,
+            last_accuracy: false,
+        }
+    }
+}
+
 fn plan(dice: &mut Dice, records: usize) -> Plan {
-    let mut plan = Plan {
-        title_more: false,
-        groups: vec![(0, false)],
-        instruments: 1,
-        antennas: 1,
-        points: 1,
-        network: 0,
-        local: 0,
-        last_accuracy: false,
-    };
+    let mut plan = Plan::shortest();
     let mut spare = records - FEWEST;
     if spare > 0 && !dice.one_in(3) {
         plan.title_more = true;
@@ -131,8 +138,44 @@ fn plan(dice: &mut Dice, records: usize) -> Plan {
 /// is accepted but for its length.
 pub fn accepted(seed: u64, records: usize) -> Vec<u8> {
     let mut dice = Dice::new(seed);
-    let dice = &mut dice;
-    let plan = plan(dice, records.max(FEWEST));
+    let plan = plan(&mut dice, records.max(FEWEST));
+    planned(&mut dice, &plan)
+}
+
+/// The kinds that nearly all records of a file are of.
+#[derive(Clone, Copy, Debug, PartialEq, Eq)]
+pub enum Mostly {
+    /// *26*
+    Comments,
+    /// *91*
+    Accuracies,
+    /// *25* with two *27*
+    Groups,
+    /// *70* and *72*, 999 of each at most
+    Equipment,
+    /// *80* with *86*, 9,999 of each at most
+    Points,
+}
+
+/// An accepted file of these kinds but for the [`FEWEST`] others, and of so
+/// many records at most.
+pub fn accepted_mostly(seed: u64, mostly: Mostly, records: usize) -> Vec<u8> {
+    let spare = records.saturating_sub(FEWEST);
+    let mut plan = Plan::shortest();
+    match mostly {
+        Mostly::Comments => plan.groups[0].0 = spare,
+        Mostly::Accuracies => plan.network = spare,
+        Mostly::Groups => plan.groups.resize(1 + spare / 3, (0, false)),
+        Mostly::Equipment => {
+            plan.instruments = (1 + spare / 2).min(999);
+            plan.antennas = plan.instruments;
+        }
+        Mostly::Points => plan.points = (1 + spare / 2).min(9_999),
+    }
+    planned(&mut Dice::new(seed), &plan)
+}
+
+fn planned(dice: &mut Dice, plan: &Plan) -> Vec<u8> {
     let stations = some_of(dice, plan.points, 9_999);
     let mut instruments = some_of(dice, plan.instruments, 999);
     instruments.sort_unstable();
@@ -140,7 +183,7 @@ pub fn accepted(seed: u64, records: usize) -> Vec<u8> {
     antennas.sort_unstable();
     let job = [dice.pick(UPPER), dice.pick(UPPER_OR_DIGIT)];
 
-    let mut file = Vec::with_capacity(records * LINE);
+    let mut file = Vec::new();
     job_record(dice, &mut file, job);
     text_record(dice, &mut file, b"10", TITLE);
     if plan.title_more {

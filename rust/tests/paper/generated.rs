@@ -1,7 +1,7 @@
 //! Generated files, accepted and damaged.
 
 use crate::sample::{columns, house, verdict, ACCEPTED};
-use shelf::generate::{self, Dice, DAMAGES};
+use shelf::generate::{self, Dice, Mostly, DAMAGES, FEWEST};
 use shelf::plain::layout::{long_texts, KINDS};
 use shelf::plain::{check, field, read, rewrite, write, Fault};
 
@@ -28,6 +28,28 @@ fn generated_files_have_the_size_asked_for_and_are_accepted() {
         assert_eq!(counts[0], 2);
     }
     assert!(seen[1..].iter().all(|&count| count > 50), "{seen:?}");
+}
+
+#[test]
+fn files_of_one_kind_are_accepted_and_have_few_other_records() {
+    for (mostly, kinds, most) in [
+        (Mostly::Comments, &["26"][..], 10_000),
+        (Mostly::Accuracies, &["91"], 10_000),
+        (Mostly::Groups, &["25", "27"], 10_000),
+        (Mostly::Equipment, &["70", "72"], 2 * 999 + 9),
+        (Mostly::Points, &["80", "86"], 10_000),
+    ] {
+        for records in [FEWEST, 12, 13, 14, 500, 10_000] {
+            let file = generate::accepted_mostly(7, mostly, records);
+            assert_eq!(verdict(&file), ACCEPTED, "{mostly:?}, {records}");
+            let found = file.len() / 81;
+            // Groups and pairs are whole.
+            assert!(found <= records && found + 3 > records.min(most));
+            let others = (1..=found)
+                .filter(|&record| !kinds.contains(&columns(&file, record, 8, 2).as_str()));
+            assert!(others.count() <= FEWEST, "{mostly:?}, {records}");
+        }
+    }
 }
 
 #[test]
