@@ -1,7 +1,7 @@
 //! The five calls in the word form of `include/shelf.h`.
 //!
-//! The proved library and the plain implementation both answer through this
-//! one interface, so that they are compared word by word and byte by byte.
+//! The proved library and the implementations in Rust answer through this one
+//! interface, so that they are compared word by word and byte by byte.
 
 /// Check and rewrite answer number, record, column and fourteen counts.
 pub const CHECK_WORDS: usize = 17;
@@ -27,12 +27,16 @@ pub const NO_KIND: i64 = -1;
 /// A missing sequence number, in an answer of read or given to write.
 pub const NO_SEQUENCE: i64 = -1;
 
+/// The calls that take a whole file, which the tuned implementation has too.
 /// With an answer shorter than the call's own, a call touches nothing.
-pub trait Calls {
+pub trait FileCalls {
     fn check(&self, file: &[u8], table: &mut [u32], answer: &mut [u32]);
 
     fn rewrite(&self, file: &[u8], table: &mut [u32], out: &mut [u8], answer: &mut [u32]);
+}
 
+/// All five calls.
+pub trait Calls: FileCalls {
     fn read(&self, file: &[u8], record: u32, answer: &mut [i64]);
 
     fn field(&self, file: &[u8], record: u32, column: u32, answer: &mut [u64]);

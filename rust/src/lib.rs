@@ -3,7 +3,8 @@
 //!
 //! `plain` is written from the rule paper alone and exists to be compared
 //! with: it shares no code with the proved program, so that both giving the
-//! same answer says something about both.
+//! same answer says something about both. `tuned` is check and rewrite once
+//! more, written for speed, for the benchmark.
 
 pub mod calls;
 pub mod generate;
@@ -15,3 +16,4 @@ pub mod sha256;
 pub mod specimens;
 #[cfg(feature = "standin")]
 mod standin;
+pub mod tuned;

@@ -4,8 +4,8 @@
 //! functions below it give the same answers as values, for the command line.
 
 use crate::calls::{
-    Calls, CHECK_WORDS, FIELD_WORDS, FIRST_VALUE_WORD, KIND_WORD, NO_SEQUENCE, READ_WORDS,
-    SEQUENCE_WORD, WRITE_WORDS,
+    Calls, FileCalls, CHECK_WORDS, FIELD_WORDS, FIRST_VALUE_WORD, KIND_WORD, NO_SEQUENCE,
+    READ_WORDS, SEQUENCE_WORD, WRITE_WORDS,
 };
 
 /// Words of the station table.
@@ -73,7 +73,7 @@ extern "C" {
 /// and none that is written overlaps another.
 pub struct Library;
 
-impl Calls for Library {
+impl FileCalls for Library {
     fn check(&self, file: &[u8], table: &mut [u32], answer: &mut [u32]) {
         unsafe {
             shelf_check(
@@ -101,7 +101,9 @@ impl Calls for Library {
             )
         }
     }
+}
 
+impl Calls for Library {
     fn read(&self, file: &[u8], record: u32, answer: &mut [i64]) {
         unsafe {
             shelf_read(

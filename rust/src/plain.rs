@@ -15,6 +15,7 @@ mod words;
 pub use records::{field, read, write, Reading};
 pub use sheet::sheet;
 pub use walk::{check, rewrite};
+pub(crate) use words::put_checked;
 pub use words::Plain;
 
 /// Words of the station table that belong to the shelf.

@@ -2,7 +2,7 @@
 //! that everything above the library can be built and tested where its
 //! archive cannot be linked. It proves nothing.
 
-use crate::calls::Calls;
+use crate::calls::{Calls, FileCalls};
 use crate::plain::Plain;
 use std::slice::{from_raw_parts, from_raw_parts_mut};
 

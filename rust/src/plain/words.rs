@@ -2,14 +2,14 @@
 
 use super::{check, field, read, rewrite, write, Checked, Fault, LINE};
 use crate::calls::{
-    Calls, CHECK_WORDS, FIELD_WORDS, FIRST_GIVEN_VALUE, FIRST_VALUE_WORD, KIND_WORD, NO_KIND,
-    NO_SEQUENCE, READ_WORDS, SEQUENCE_WORD, WRITE_WORDS,
+    Calls, FileCalls, CHECK_WORDS, FIELD_WORDS, FIRST_GIVEN_VALUE, FIRST_VALUE_WORD, KIND_WORD,
+    NO_KIND, NO_SEQUENCE, READ_WORDS, SEQUENCE_WORD, WRITE_WORDS,
 };
 
 /// The plain implementation behind the interface it shares with the library.
 pub struct Plain;
 
-impl Calls for Plain {
+impl FileCalls for Plain {
     fn check(&self, file: &[u8], table: &mut [u32], answer: &mut [u32]) {
         if let Some(answer) = answer.get_mut(..CHECK_WORDS) {
             put_checked(answer, &check(file, table));
@@ -21,7 +21,9 @@ impl Calls for Plain {
             put_checked(answer, &rewrite(file, table, out));
         }
     }
+}
 
+impl Calls for Plain {
     fn read(&self, file: &[u8], record: u32, answer: &mut [i64]) {
         let Some(answer) = answer.get_mut(..READ_WORDS) else {
             return;
@@ -76,7 +78,7 @@ fn fault_words(fault: &Fault) -> [u32; 3] {
     [fault.number, fault.record as u32, fault.column as u32]
 }
 
-fn put_checked(answer: &mut [u32], checked: &Checked) {
+pub(crate) fn put_checked(answer: &mut [u32], checked: &Checked) {
     let (fault, counts) = answer.split_at_mut(3);
     fault.copy_from_slice(&fault_words(&checked.fault));
     counts.copy_from_slice(&checked.counts);

@@ -4,7 +4,7 @@
 //! that was changed, or one about where the file was.
 
 use shelf::generate::{self, Dice};
-use shelf::plain::layout::{kind_of, FIELDS};
+use shelf::plain::layout::{kind_of, FIELDS, OCCUPATION, POINT, PROJECT};
 use shelf::plain::LINE;
 use shelf::sample;
 
@@ -24,19 +24,45 @@ pub fn every_byte(try_file: &mut dyn FnMut(&[u8], u32)) {
     }
 }
 
-/// Each field of each record of the sample, columns 1-6 and 7-10 too, filled
-/// with what numbers, heights, angles and codes go wrong on.
+/// Each field of each record of the sample, columns 1-6 and 7-10 and the parts
+/// of a field too, filled with what numbers, heights, angles and codes go
+/// wrong on.
 pub fn filled(try_file: &mut dyn FnMut(&[u8], u32)) {
     let good = sample::file();
     let mut dice = Dice::new(11);
     for (start, kind) in records(&good) {
         let rows = FIELDS[kind].iter().map(|field| (field.first, field.width));
-        for (first, width) in rows.chain([(1, 6), (7, 4)]) {
+        let parts: &[(usize, usize)] = match kind {
+            PROJECT => &[(11, 4), (15, 2), (17, 4), (21, 2)],
+            OCCUPATION => &[(16, 3)],
+            _ => &[],
+        };
+        let others = [(1, 6), (7, 4)];
+        for (first, width) in rows.chain(others).chain(parts.iter().copied()) {
             let from = start + first - 1;
             let mut file = good.clone();
             for _ in 0..400 {
                 generate::telling(&mut dice, &mut file[from..from + width]);
                 try_file(&file, record_of(start));
+            }
+        }
+    }
+}
+
+/// Angles at the ends of their ranges, each of their columns as each byte.
+pub fn angles(try_file: &mut dyn FnMut(&[u8], u32)) {
+    let good = sample::file();
+    for (start, _) in records(&good).filter(|&(_, kind)| kind == POINT) {
+        let record = record_of(start);
+        for angles in ["90000000000N180000000000E", "00000000000S000000000000W"] {
+            let mut file = sample::with(&good, record as usize, 45, angles);
+            for at in start + 44..start + 69 {
+                let held = file[at];
+                for byte in 0..=255 {
+                    file[at] = byte;
+                    try_file(&file, record);
+                }
+                file[at] = held;
             }
         }
     }

@@ -1,6 +1,6 @@
 //! Tables, outputs and answers of every length that matters.
 
-use crate::pair::Pair;
+use crate::sides::Sides;
 use shelf::calls::{CHECK_WORDS, FIELD_WORDS, READ_WORDS, WRITE_WORDS};
 use shelf::generate;
 use shelf::plain::{LINE, TABLE_WORDS};
@@ -37,19 +37,19 @@ fn files() -> Vec<Vec<u8>> {
 
 #[test]
 fn check() {
-    let mut pair = Pair::new();
+    let mut sides = Sides::new();
     let mut faults = [0; 14];
     for file in files() {
         for words in TABLES {
             for answers in 0..=CHECK_WORDS + 4 {
-                let [number, ..] = pair.check_lent(&file, words, answers);
+                let [number, ..] = sides.check_lent(&file, words, answers);
                 if answers >= CHECK_WORDS {
                     faults[number as usize] += 1;
                 }
             }
         }
     }
-    pair.tried(1_500);
+    sides.tried(1_500);
     for number in [0, 1, 3, 4, 5, 6, 7, 8, 9, 10, 11, 12] {
         assert!(faults[number] > 0, "fault {number}");
     }
@@ -57,7 +57,7 @@ fn check() {
 
 #[test]
 fn rewrite() {
-    let mut pair = Pair::new();
+    let mut sides = Sides::new();
     for file in files() {
         let length = file.len();
         let rooms = [
@@ -72,41 +72,41 @@ fn rewrite() {
         for words in TABLES {
             for room in rooms {
                 for answers in [0, 1, 3, CHECK_WORDS - 1, CHECK_WORDS, CHECK_WORDS + 4] {
-                    pair.rewrite_lent(&file, words, room, answers);
+                    sides.rewrite_lent(&file, words, room, answers);
                 }
             }
         }
     }
-    pair.tried(3_000);
+    sides.tried(3_000);
 }
 
 #[test]
 fn read_and_field() {
-    let mut pair = Pair::new();
+    let mut sides = Sides::new();
     for file in files() {
         for record in [0, 1, 2, 3, 5, 7, 20, 24, 25, 100_000] {
             for answers in 0..=READ_WORDS + 4 {
-                pair.read_lent(&file, record, answers);
+                sides.read_lent(&file, record, answers);
             }
             for answers in 0..=FIELD_WORDS + 4 {
                 for column in [0, 10, 11, 15, 80] {
-                    pair.field(&file, record, column, answers);
+                    sides.field(&file, record, column, answers);
                 }
             }
         }
     }
-    pair.tried(8_000);
+    sides.tried(8_000);
 }
 
 #[test]
 fn write() {
-    let mut pair = Pair::new();
+    let mut sides = Sides::new();
     let blanks = [b' '; 70];
     // A comment that is written, a bad sequence number, kind and text.
     for (kind, sequence, width) in [(5, 7, 70), (5, 0, 70), (14, 7, 70), (5, 7, 69)] {
         for room in 0..=LINE + 4 {
             for answers in 0..=WRITE_WORDS + 4 {
-                pair.write_lent(
+                sides.write_lent(
                     &[kind, sequence],
                     [&blanks[..width], b"", b""],
                     room,
@@ -115,5 +115,5 @@ fn write() {
             }
         }
     }
-    pair.tried(2_000);
+    sides.tried(2_000);
 }

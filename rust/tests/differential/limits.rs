@@ -1,6 +1,6 @@
 //! Files about as long as a file may be.
 
-use crate::pair::Pair;
+use crate::sides::Sides;
 use shelf::calls::FIELD_WORDS;
 use shelf::generate;
 use shelf::plain::{LAST_RECORD, LINE};
@@ -8,67 +8,67 @@ use shelf::plain::{LAST_RECORD, LINE};
 const LAST: usize = LAST_RECORD as usize;
 
 /// Check, rewrite, and read and field about the last records.
-fn try_all(pair: &mut Pair, file: &[u8]) {
-    pair.check(file);
-    pair.rewrite(file);
+fn try_all(sides: &mut Sides, file: &[u8]) {
+    sides.check(file);
+    sides.rewrite(file);
     for record in [1, 50_000, 99_998, 99_999, 100_000, 100_001] {
-        pair.read(file, record);
-        pair.field(file, record, 11, FIELD_WORDS);
+        sides.read(file, record);
+        sides.field(file, record, 11, FIELD_WORDS);
     }
 }
 
 #[test]
 fn records_99_999() {
-    let mut pair = Pair::new();
+    let mut sides = Sides::new();
     for seed in [31, 32] {
         let mut file = generate::accepted(seed, LAST);
-        try_all(&mut pair, &file);
+        try_all(&mut sides, &file);
         for (column, byte) in [(81, b'\r'), (80, b'\t'), (7, b' '), (1, b'-'), (1, b' ')] {
             let at = file.len() - LINE + column - 1;
             let held = file[at];
             file[at] = byte;
-            try_all(&mut pair, &file);
+            try_all(&mut sides, &file);
             file[at] = held;
         }
         for end in [file.len() - 1, file.len() - LINE, file.len() - LINE + 1] {
-            try_all(&mut pair, &file[..end]);
+            try_all(&mut sides, &file[..end]);
         }
         for behind in [&b" "[..], b"\n", b"\xff"] {
-            try_all(&mut pair, &[&file, behind].concat());
+            try_all(&mut sides, &[&file, behind].concat());
         }
     }
-    pair.tried(300);
+    sides.tried(300);
     for number in [0, 2, 3, 4, 5, 6, 8, 9, 13] {
-        assert!(pair.faults(number) > 0, "fault {number}");
+        assert!(sides.faults(number) > 0, "fault {number}");
     }
 }
 
 #[test]
 fn records_100_000_and_more() {
-    let mut pair = Pair::new();
+    let mut sides = Sides::new();
     for more in [1, 2, 3] {
         let file = generate::accepted(33, LAST + more);
-        try_all(&mut pair, &file);
-        try_all(&mut pair, &file[..LAST * LINE + 1]);
+        try_all(&mut sides, &file);
+        try_all(&mut sides, &file[..LAST * LINE + 1]);
         // A record must follow, and none has begun.
-        try_all(&mut pair, &file[..LAST * LINE]);
+        try_all(&mut sides, &file[..LAST * LINE]);
     }
-    pair.tried(100);
-    assert!(pair.faults(2) >= 6 && pair.faults(8) >= 3);
+    sides.tried(100);
+    assert!(sides.faults(2) >= 6 && sides.faults(8) >= 3);
 }
 
 /// Damage among the first records of a long file, where the rest has to be
 /// passed over, and references that only the end decides.
 #[test]
 fn long_files_damaged() {
-    let mut pair = Pair::new();
+    let mut sides = Sides::new();
     let good = generate::accepted(34, LAST);
     let mut dice = generate::Dice::new(35);
     for way in generate::DAMAGES {
         let mut file = good.clone();
         generate::damage(&mut dice, &mut file, way);
-        pair.check(&file);
-        pair.rewrite(&file);
+        sides.check(&file);
+        sides.rewrite(&file);
     }
-    pair.tried(2 * generate::DAMAGES.len() as u64);
+    sides.tried(2 * generate::DAMAGES.len() as u64);
 }

@@ -1,15 +1,16 @@
-//! The library and the plain implementation, called alike and compared: every
-//! answer, every word of a table, every byte of an output, and what stands
-//! behind each of them. `cargo test --release` runs it on all cores.
+//! The library, the tuned and the plain implementation, called alike and
+//! compared: every answer, every word of a table, every byte of an output, and
+//! what stands behind each of them. `cargo test --release` runs it on all
+//! cores.
 
 mod check;
 mod field;
 mod files;
 mod lent;
 mod limits;
-mod pair;
 mod read;
 mod rewrite;
+mod sides;
 mod typed;
 mod write;
 
@@ -17,6 +18,7 @@ mod write;
 mod least {
     pub const EVERY_BYTE: u64 = 24 * 81 * 256;
     pub const FILLED: u64 = 50_000;
+    pub const ANGLES: u64 = 2 * 2 * 25 * 256;
     pub const TWO_BYTES: u64 = 150_000;
     pub const DAMAGED: u64 = 40_000;
     pub const CUT: u64 = 10_000;
@@ -28,7 +30,7 @@ mod least {
     pub const WRITE_MIXED: u64 = 300_000;
 
     /// Check, rewrite and read each try these families.
-    const ALL: u64 = 3 * (EVERY_BYTE + FILLED + TWO_BYTES + DAMAGED + CUT + ORDER)
+    const ALL: u64 = 3 * (EVERY_BYTE + FILLED + ANGLES + TWO_BYTES + DAMAGED + CUT + ORDER)
         + READ_RECORDS
         + FIELDS
         + WRITE_WORDS

@@ -2,24 +2,31 @@
 
 use crate::files::{self, Family};
 use crate::least;
-use crate::pair::Pair;
+use crate::sides::Sides;
 use shelf::plain::LINE;
 
-fn read(family: Family, least: u64) -> Pair {
-    Pair::over(family, least, |pair, file, record| pair.read(file, record))
+fn read(family: Family, least: u64) -> Sides {
+    Sides::over(family, least, |sides, file, record| {
+        sides.read(file, record)
+    })
 }
 
 #[test]
 fn every_byte() {
-    let pair = read(files::every_byte, least::EVERY_BYTE);
+    let sides = read(files::every_byte, least::EVERY_BYTE);
     assert!([0, 4, 5, 6, 9, 10]
         .iter()
-        .all(|&number| pair.faults(number) > 50));
+        .all(|&number| sides.faults(number) > 50));
 }
 
 #[test]
 fn filled() {
     assert!(read(files::filled, least::FILLED).faults(10) > 500);
+}
+
+#[test]
+fn angles() {
+    assert!(read(files::angles, least::ANGLES).faults(0) > 100);
 }
 
 #[test]
@@ -30,35 +37,37 @@ fn two_bytes() {
 /// Every record of accepted and damaged files, and those that are not there.
 #[test]
 fn damaged() {
-    let pair = Pair::over(files::damaged, least::READ_RECORDS, |pair, file, _| {
+    let sides = Sides::over(files::damaged, least::READ_RECORDS, |sides, file, _| {
         if file.len() < 60 * LINE {
-            every_record(pair, file);
+            every_record(sides, file);
         }
     });
     for number in [0, 3, 4, 5, 6, 9, 10, 13] {
-        assert!(pair.faults(number) > 500, "fault {number}");
+        assert!(sides.faults(number) > 500, "fault {number}");
     }
 }
 
 #[test]
 fn cut() {
-    let pair = read(files::cut, least::CUT);
-    assert!([3, 4, 5, 13].iter().all(|&number| pair.faults(number) > 50));
+    let sides = read(files::cut, least::CUT);
+    assert!([3, 4, 5, 13]
+        .iter()
+        .all(|&number| sides.faults(number) > 50));
 }
 
 /// Reading does not ask what stands before.
 #[test]
 fn order() {
-    let pair = read(files::order, least::ORDER);
-    assert_eq!(pair.faults(7), 0);
-    assert!(pair.faults(0) > 10_000);
+    let sides = read(files::order, least::ORDER);
+    assert_eq!(sides.faults(7), 0);
+    assert!(sides.faults(0) > 10_000);
 }
 
-fn every_record(pair: &mut Pair, file: &[u8]) {
+fn every_record(sides: &mut Sides, file: &[u8]) {
     let last = (file.len() / LINE) as u32;
     // The first bytes of the last two, cut to 32 bits, lie in the file.
     let far = [99_999, 100_000, u32::MAX, 53_024_288, 53_024_289];
     for record in (0..=last + 2).chain(far) {
-        pair.read(file, record);
+        sides.read(file, record);
     }
 }

@@ -2,10 +2,10 @@
 
 use crate::files::{self, Family};
 use crate::least;
-use crate::pair::Pair;
+use crate::sides::Sides;
 
 fn rewritten(family: Family, least: u64) -> u32 {
-    Pair::over(family, least, |pair, file, _| pair.rewrite(file)).faults(0)
+    Sides::over(family, least, |sides, file, _| sides.rewrite(file)).faults(0)
 }
 
 #[test]
@@ -16,6 +16,11 @@ fn every_byte() {
 #[test]
 fn filled() {
     assert!(rewritten(files::filled, least::FILLED) > 5_000);
+}
+
+#[test]
+fn angles() {
+    assert!(rewritten(files::angles, least::ANGLES) > 100);
 }
 
 #[test]

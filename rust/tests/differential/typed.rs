@@ -1,6 +1,6 @@
 //! The library's answers as values say what its words say.
 
-use shelf::calls::{Calls, CHECK_WORDS, READ_WORDS};
+use shelf::calls::{Calls, FileCalls, CHECK_WORDS, READ_WORDS};
 use shelf::library::{self, Fault, Library, TABLE_WORDS};
 use shelf::plain::layout::long_texts;
 use shelf::{generate, sample};

@@ -1,7 +1,7 @@
 //! Write: values as read gives them, and what fits no field.
 
 use crate::least;
-use crate::pair::Pair;
+use crate::sides::Sides;
 use shelf::generate::{self, Dice};
 use shelf::plain::layout::{long_texts, JOB, KINDS};
 use shelf::plain::{field, read, LINE, MISSING};
@@ -33,9 +33,9 @@ impl Given {
         self.values[0] as usize
     }
 
-    fn try_on(&self, pair: &mut Pair) -> u32 {
+    fn try_on(&self, sides: &mut Sides) -> u32 {
         let [first, second, third] = &self.texts;
-        pair.write(&self.values, [first, second, third])
+        sides.write(&self.values, [first, second, third])
     }
 }
 
@@ -98,81 +98,81 @@ fn telling_values() -> Vec<i64> {
 
 #[test]
 fn every_word() {
-    let mut pair = Pair::new();
+    let mut sides = Sides::new();
     let telling = telling_values();
     for good in given() {
-        assert_eq!(good.try_on(&mut pair), 0);
+        assert_eq!(good.try_on(&mut sides), 0);
         for word in 0..good.values.len() {
             let mut changed = good.clone();
             for &value in &telling {
                 changed.values[word] = value;
-                changed.try_on(&mut pair);
+                changed.try_on(&mut sides);
             }
         }
     }
-    pair.tried(least::WRITE_WORDS);
-    assert!(pair.faults(0) > 10_000 && pair.faults(10) > 100);
+    sides.tried(least::WRITE_WORDS);
+    assert!(sides.faults(0) > 10_000 && sides.faults(10) > 100);
     for kind in 0..KINDS.len() {
-        assert!(pair.faults_at(9, kind, 1) > 0);
+        assert!(sides.faults_at(9, kind, 1) > 0);
     }
-    assert!(pair.faults_at(9, JOB, 7) > 0);
+    assert!(sides.faults_at(9, JOB, 7) > 0);
 }
 
 /// The kind and the sequence number together: which of them is named.
 #[test]
 fn every_kind_and_sequence() {
-    let mut pair = Pair::new();
+    let mut sides = Sides::new();
     let text = [b' '; 70];
     let sequences = [-2, -1, 0, 1, 999_999, 1_000_000, MISSING, i64::MAX, 1 << 32];
     for kind in (-3..=20).chain([256, 261, 1 << 32, (1 << 32) + 5, MISSING, i64::MAX]) {
         for sequence in sequences {
             for count in 0..=3 {
                 let values = &[kind, sequence, 65][..count];
-                pair.write(values, [&text, b"", b""]);
+                sides.write(values, [&text, b"", b""]);
             }
         }
     }
-    pair.tried(1_000);
-    assert!(pair.faults(0) > 20);
-    assert!(pair.faults_at(9, KINDS.len(), 1) > 0 && pair.faults_at(9, KINDS.len(), 7) > 0);
+    sides.tried(1_000);
+    assert!(sides.faults(0) > 20);
+    assert!(sides.faults_at(9, KINDS.len(), 1) > 0 && sides.faults_at(9, KINDS.len(), 7) > 0);
 }
 
 /// Counts below what the kind needs, and above.
 #[test]
 fn every_count() {
-    let mut pair = Pair::new();
+    let mut sides = Sides::new();
     for good in given() {
         for count in 0..=good.values.len() {
             let mut short = good.clone();
             short.values.truncate(count);
-            let number = short.try_on(&mut pair);
+            let number = short.try_on(&mut sides);
             assert_eq!(number == 0, count == good.values.len());
         }
         let mut long = good.clone();
         long.values.extend([i64::MAX, -1, 0]);
-        assert_eq!(long.try_on(&mut pair), 0);
+        assert_eq!(long.try_on(&mut sides), 0);
     }
-    pair.tried(200);
-    assert!(pair.faults_at(9, 4, 33) > 0 && pair.faults_at(9, 10, 56) > 0);
+    sides.tried(200);
+    assert!(sides.faults_at(9, 4, 33) > 0 && sides.faults_at(9, 10, 56) > 0);
 }
 
 /// Each column of each text as each byte, and texts of every width.
 #[test]
 fn every_text() {
-    let mut pair = Pair::new();
+    let mut sides = Sides::new();
     for good in given() {
         for text in 0..long_texts(good.kind()).len() {
             let mut changed = good.clone();
             for column in 0..good.texts[text].len() {
                 for byte in 0..=255 {
                     changed.texts[text][column] = byte;
-                    changed.try_on(&mut pair);
+                    changed.try_on(&mut sides);
                 }
                 changed.texts[text][column] = good.texts[text][column];
             }
             for width in (0..=90).chain([255, 256, 256 + 70]) {
                 changed.texts[text].resize(width, b' ');
-                changed.try_on(&mut pair);
+                changed.try_on(&mut sides);
             }
         }
         // A text that the kind does not have is not looked at.
@@ -180,33 +180,33 @@ fn every_text() {
         for text in &mut more.texts[long_texts(good.kind()).len()..] {
             text.push(0xff);
         }
-        assert_eq!(more.try_on(&mut pair), 0);
+        assert_eq!(more.try_on(&mut sides), 0);
     }
-    pair.tried(least::WRITE_TEXTS);
+    sides.tried(least::WRITE_TEXTS);
 }
 
 /// Records of made-up files, some of their words and texts changed at once.
 #[test]
 fn mixed() {
-    let mut pair = Pair::new();
+    let mut sides = Sides::new();
     let mut dice = Dice::new(51);
     let telling = telling_values();
     for seed in 0..500 {
         let file = generate::accepted(seed, 11 + seed as usize % 40);
         for record in 1..=(file.len() / LINE) as u64 {
             let good = Given::of(&file, record);
-            assert_eq!(good.try_on(&mut pair), 0);
+            assert_eq!(good.try_on(&mut sides), 0);
             for _ in 0..20 {
                 let mut changed = good.clone();
                 for _ in 0..1 + dice.below(2) {
                     change(&mut dice, &mut changed, &telling);
                 }
-                changed.try_on(&mut pair);
+                changed.try_on(&mut sides);
             }
         }
     }
-    pair.tried(least::WRITE_MIXED);
-    assert!(pair.faults(0) > 20_000 && pair.faults(10) > 1_000);
+    sides.tried(least::WRITE_MIXED);
+    assert!(sides.faults(0) > 20_000 && sides.faults(10) > 1_000);
 }
 
 fn change(dice: &mut Dice, given: &mut Given, telling: &[i64]) {

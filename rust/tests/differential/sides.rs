@@ -1,37 +1,41 @@
-//! Both implementations, given the same and compared.
+//! The implementations, given the same and compared.
 
 use crate::files::Family;
-use shelf::calls::{Calls, CHECK_WORDS, FIELD_WORDS, READ_WORDS, WRITE_WORDS};
+use shelf::calls::{Calls, FileCalls, CHECK_WORDS, FIELD_WORDS, READ_WORDS, WRITE_WORDS};
 use shelf::library::Library;
 use shelf::plain::layout::{kind_of, KINDS};
 use shelf::plain::{Plain, LINE, TABLE_WORDS};
+use shelf::tuned::{self, Tuned};
 use std::fmt::Debug;
 use std::{env, fs, thread};
 
-/// What is expected comes from the first, what is found from the second.
-const BOTH: [&dyn Calls; 2] = [&Plain, &Library];
+/// What is expected comes from the first, what is found from the others.
+const NAMES: [&str; 3] = ["plain", "library", "tuned"];
+const OF_FILES: [&dyn FileCalls; 3] = [&Plain, &Library, &Tuned];
+/// The tuned implementation has no calls for one record.
+const OF_RECORDS: [&dyn Calls; 2] = [&Plain, &Library];
 
 /// Behind what is lent stand so many words or bytes that are not, and that
 /// no call may touch.
 const BEYOND: usize = 5;
 
-/// The row of [`Pair::places`] for records that have no known code.
+/// The row of [`Sides::places`] for records that have no known code.
 const NO_KIND: usize = KINDS.len();
 
-pub struct Pair {
-    tables: [Vec<u32>; 2],
-    outs: [Vec<u8>; 2],
+pub struct Sides {
+    tables: [Vec<u32>; 3],
+    outs: [Vec<u8>; 3],
     /// How many calls were compared.
     cases: u64,
     /// How often each fault came, by number, kind of its record and column.
     places: Vec<[[u32; LINE + 1]; NO_KIND + 1]>,
 }
 
-impl Pair {
-    pub fn new() -> Pair {
-        Pair {
-            tables: [Vec::new(), Vec::new()],
-            outs: [Vec::new(), Vec::new()],
+impl Sides {
+    pub fn new() -> Sides {
+        Sides {
+            tables: [const { Vec::new() }; 3],
+            outs: [const { Vec::new() }; 3],
             cases: 0,
             places: vec![[[0; LINE + 1]; NO_KIND + 1]; 14],
         }
@@ -41,16 +45,30 @@ impl Pair {
     pub fn check(&mut self, file: &[u8]) {
         let fault = self.check_lent(file, TABLE_WORDS + 1, CHECK_WORDS + 1);
         self.place(file, fault);
+        self.tuned_alone(file, fault[0] == 0);
+    }
+
+    /// The tuned implementation hands a file over as soon as it finds it
+    /// faulty, and what is answered then is not its own: so it is asked by
+    /// itself whether a file is good.
+    fn tuned_alone(&self, file: &[u8], expected: bool) {
+        let found = tuned::accepted(file, &mut [0; TABLE_WORDS]).is_some();
+        if found != expected {
+            panic!(
+                "tuned alone: good {found}, plain {expected}; {}",
+                keep(file)
+            );
+        }
     }
 
     /// Check with so many words of a table and of an answer. Gives the first
     /// words of the answer: the fault, if there was room for it.
     pub fn check_lent(&mut self, file: &[u8], words: usize, answers: usize) -> [u32; 3] {
         let mark = self.mark();
-        let mut given = [[mark; CHECK_WORDS + BEYOND]; 2];
-        for side in 0..2 {
+        let mut given = [[mark; CHECK_WORDS + BEYOND]; 3];
+        for side in 0..3 {
             let table = renewed(&mut self.tables[side], words, mark);
-            BOTH[side].check(file, table, &mut given[side][..answers]);
+            OF_FILES[side].check(file, table, &mut given[side][..answers]);
         }
         let about = || format!("check, table of {words}, answer of {answers} words");
         same(file, &about, "answer", &given);
@@ -75,11 +93,11 @@ impl Pair {
         answers: usize,
     ) -> [u32; 3] {
         let mark = self.mark();
-        let mut given = [[mark; CHECK_WORDS + BEYOND]; 2];
-        for side in 0..2 {
+        let mut given = [[mark; CHECK_WORDS + BEYOND]; 3];
+        for side in 0..3 {
             let table = renewed(&mut self.tables[side], words, mark);
             let out = renewed(&mut self.outs[side], room, mark as u8);
-            BOTH[side].rewrite(file, table, out, &mut given[side][..answers]);
+            OF_FILES[side].rewrite(file, table, out, &mut given[side][..answers]);
         }
         let about =
             || format!("rewrite, table of {words}, output of {room}, answer of {answers} words");
@@ -101,7 +119,7 @@ impl Pair {
         let mark = i64::from(self.mark()) << 20;
         let mut given = [[mark; READ_WORDS + BEYOND]; 2];
         for side in 0..2 {
-            BOTH[side].read(file, record, &mut given[side][..answers]);
+            OF_RECORDS[side].read(file, record, &mut given[side][..answers]);
         }
         let about = || format!("read of record {record}, answer of {answers} words");
         same(file, &about, "answer", &given);
@@ -114,7 +132,7 @@ impl Pair {
         let mark = u64::from(self.mark()) << 20;
         let mut given = [[mark; FIELD_WORDS + BEYOND]; 2];
         for side in 0..2 {
-            BOTH[side].field(file, record, column, &mut given[side][..answers]);
+            OF_RECORDS[side].field(file, record, column, &mut given[side][..answers]);
         }
         let about =
             || format!("field of record {record}, column {column}, answer of {answers} words");
@@ -134,14 +152,14 @@ impl Pair {
         let mut given = [[mark; WRITE_WORDS + BEYOND]; 2];
         for side in 0..2 {
             let out = renewed(&mut self.outs[side], room, mark as u8);
-            BOTH[side].write(out, values, texts, &mut given[side][..answers]);
+            OF_RECORDS[side].write(out, values, texts, &mut given[side][..answers]);
         }
         let about = || {
             let texts = texts.map(|text| text.escape_ascii().to_string());
             format!("write of {values:?} {texts:?}, output of {room}, answer of {answers} words")
         };
         same(b"", &about, "answer", &given);
-        same(b"", &about, "output", &self.outs);
+        same(b"", &about, "output", &self.outs[..2]);
         [given[1][0], given[1][1], given[1][2]]
     }
 
@@ -172,11 +190,11 @@ impl Pair {
     }
 
     /// Tries a call on each file of a family.
-    pub fn over(family: Family, least: u64, call: impl Fn(&mut Pair, &[u8], u32)) -> Pair {
-        let mut pair = Pair::new();
-        family(&mut |file, record| call(&mut pair, file, record));
-        pair.tried(least);
-        pair
+    pub fn over(family: Family, least: u64, call: impl Fn(&mut Sides, &[u8], u32)) -> Sides {
+        let mut sides = Sides::new();
+        family(&mut |file, record| call(&mut sides, file, record));
+        sides.tried(least);
+        sides
     }
 
     /// Says how many cases a test has tried, which `--nocapture` shows, and
@@ -210,28 +228,36 @@ fn same<T: PartialEq + Debug, P: AsRef<[T]>>(
     file: &[u8],
     about: &dyn Fn() -> String,
     what: &str,
-    both: &[P; 2],
+    given: &[P],
 ) {
-    let [expected, found] = [both[0].as_ref(), both[1].as_ref()];
-    if expected == found {
-        return;
+    let expected = given[0].as_ref();
+    for (name, found) in NAMES.iter().zip(given).skip(1) {
+        let found = found.as_ref();
+        if expected == found {
+            continue;
+        }
+        let place = expected
+            .iter()
+            .zip(found)
+            .position(|(one, other)| one != other);
+        let place = place.unwrap_or(expected.len().min(found.len()));
+        panic!(
+            "{}: {what} differs at {place}: plain {:?}, {name} {:?}; {}",
+            about(),
+            expected.get(place),
+            found.get(place),
+            keep(file),
+        );
     }
-    let place = expected
-        .iter()
-        .zip(found)
-        .position(|(one, other)| one != other);
-    let place = place.unwrap_or(expected.len().min(found.len()));
+}
+
+/// Keeps a file that brought a difference, and says where.
+fn keep(file: &[u8]) -> String {
     let test = thread::current().name().unwrap_or("").replace(':', "-");
     let name = env::temp_dir().join(format!("shelf-differs-{test}.b"));
     let kept = match fs::write(&name, file) {
         Ok(()) => format!("kept as {}", name.display()),
         Err(trouble) => format!("not kept: {trouble}"),
     };
-    panic!(
-        "{}: {what} differs at {place}: plain {:?}, library {:?}; the file of {} bytes is {kept}",
-        about(),
-        expected.get(place),
-        found.get(place),
-        file.len(),
-    );
+    format!("the file of {} bytes is {kept}", file.len())
 }

@@ -1,0 +1,198 @@
+//! The whole file, in the order in which its records come.
+
+use super::judge::{self, Digits};
+use super::rows::Line;
+use crate::plain::layout::{
+    ANTENNA, COMMENT, HEIGHTS, INSTRUMENT, JOB, LAST_ACCURACY, LOCAL, MEASUREMENT, NETWORK,
+    OCCUPATION, POINT, PROJECT, TITLE, TITLE_MORE,
+};
+use crate::plain::{FIRST_ANTENNA_WORD, FIRST_INSTRUMENT_WORD, LAST_RECORD, LINE, TABLE_WORDS};
+
+/// The word of a number that a *25* named and nothing has defined yet. All
+/// *25* come before all definitions, so one pass settles every reference.
+const NAMED: u32 = u32::MAX;
+
+struct Walk<'a> {
+    rest: &'a [u8],
+    /// The number of the record last taken.
+    record: u32,
+    table: &'a mut [u32; TABLE_WORDS],
+    /// How many words are [`NAMED`].
+    undefined: u32,
+    counts: [u32; 14],
+}
+
+/// The counts of a good file, with its table filled; `None` of a file that
+/// has a fault, and then the table is left as it happens to be.
+pub fn accepted(file: &[u8], table: &mut [u32; TABLE_WORDS]) -> Option<[u32; 14]> {
+    if file.len() > LAST_RECORD as usize * LINE {
+        return None;
+    }
+    table.fill(0);
+    let mut walk = Walk {
+        rest: file,
+        record: 0,
+        table,
+        undefined: 0,
+        counts: [0; 14],
+    };
+    let code = walk.head()?;
+    walk.groups()?;
+    walk.equipment()?;
+    walk.points()?;
+    walk.accuracies()?;
+    let last = walk.take()?;
+    let good = judge::job(last) && last[6..10] == code && walk.rest.is_empty();
+    walk.counts[JOB] = 2;
+    (good && walk.undefined == 0).then_some(walk.counts)
+}
+
+impl<'a> Walk<'a> {
+    /// Whether a record of this code comes next, as far as its two characters
+    /// say; the whole code is judged with the record.
+    #[inline(always)]
+    fn comes(&self, code: &[u8; 2]) -> bool {
+        self.rest.len() >= LINE && self.rest[7..9] == *code
+    }
+
+    #[inline(always)]
+    fn take(&mut self) -> Option<&'a Line> {
+        let (line, rest) = self.rest.split_first_chunk()?;
+        self.rest = rest;
+        self.record += 1;
+        Some(line)
+    }
+
+    /// Takes a record whose judge says no more than whether it is good.
+    #[inline(always)]
+    fn take_good(&mut self, judge: impl Fn(&Line) -> bool) -> Option<()> {
+        judge(self.take()?).then_some(())
+    }
+
+    /// Up to the *12*. Gives the job code with its asterisks.
+    fn head(&mut self) -> Option<[u8; 4]> {
+        let first = self.take()?;
+        if !judge::job(first) {
+            return None;
+        }
+        self.take_good(judge::title::<TITLE>)?;
+        if self.comes(b"11") {
+            self.take_good(judge::title::<TITLE_MORE>)?;
+        }
+        self.take_good(judge::project)?;
+        self.counts[TITLE] = 1;
+        self.counts[TITLE_MORE] = self.record - 3;
+        self.counts[PROJECT] = 1;
+        Some([first[6], first[7], first[8], first[9]])
+    }
+
+    /// Every *25* with its comments and its two or three measurements.
+    fn groups(&mut self) -> Option<()> {
+        let [mut groups, mut comments, before] = [0, 0, self.record];
+        loop {
+            let named = judge::occupation(self.take()?)?;
+            self.name(judge::value(named.station))?;
+            self.name(FIRST_INSTRUMENT_WORD + judge::value(named.instrument))?;
+            self.name(FIRST_ANTENNA_WORD + judge::value(named.antenna))?;
+            groups += 1;
+            while self.comes(b"26") {
+                self.take_good(judge::formed::<COMMENT>)?;
+                comments += 1;
+            }
+            self.measurement(named.station)?;
+            self.measurement(named.station)?;
+            if self.comes(b"27") {
+                self.measurement(named.station)?;
+            }
+            if !self.comes(b"25") {
+                self.counts[OCCUPATION] = groups;
+                self.counts[COMMENT] = comments;
+                self.counts[MEASUREMENT] = self.record - before - groups - comments;
+                return Some(());
+            }
+        }
+    }
+
+    #[inline(always)]
+    fn measurement(&mut self, station: Digits) -> Option<()> {
+        self.take_good(|line| judge::measurement(line, station))
+    }
+
+    /// *70* and *72*, each rising.
+    fn equipment(&mut self) -> Option<()> {
+        self.counts[INSTRUMENT] = self.rising(b"70", FIRST_INSTRUMENT_WORD, judge::instrument)?;
+        self.counts[ANTENNA] = self.rising(b"72", FIRST_ANTENNA_WORD, judge::antenna)?;
+        Some(())
+    }
+
+    #[inline(always)]
+    fn rising(
+        &mut self,
+        code: &[u8; 2],
+        first_word: usize,
+        judge: impl Fn(&Line) -> Option<Digits>,
+    ) -> Option<u32> {
+        let before = self.record;
+        let mut last = judge(self.take()?)?;
+        self.define(first_word + judge::value(last))?;
+        while self.comes(code) {
+            let number = judge(self.take()?)?;
+            if !judge::is_above(number, last) {
+                return None;
+            }
+            self.define(first_word + judge::value(number))?;
+            last = number;
+        }
+        Some(self.record - before)
+    }
+
+    /// Each *80* with its *86*.
+    fn points(&mut self) -> Option<()> {
+        let before = self.record;
+        loop {
+            let station = judge::point(self.take()?)?;
+            self.define(judge::value(station))?;
+            self.take_good(|line| judge::heights(line, station))?;
+            if !self.comes(b"80") {
+                self.counts[POINT] = (self.record - before) / 2;
+                self.counts[HEIGHTS] = self.counts[POINT];
+                return Some(());
+            }
+        }
+    }
+
+    /// *91* and *92* as many as there are, and a *93*.
+    fn accuracies(&mut self) -> Option<()> {
+        while self.comes(b"91") {
+            self.take_good(judge::formed::<NETWORK>)?;
+            self.counts[NETWORK] += 1;
+        }
+        while self.comes(b"92") {
+            self.take_good(judge::formed::<LOCAL>)?;
+            self.counts[LOCAL] += 1;
+        }
+        if self.comes(b"93") {
+            self.take_good(judge::formed::<LAST_ACCURACY>)?;
+            self.counts[LAST_ACCURACY] = 1;
+        }
+        Some(())
+    }
+
+    #[inline(always)]
+    fn name(&mut self, at: usize) -> Option<()> {
+        let word = self.table.get_mut(at)?;
+        self.undefined += u32::from(*word == 0);
+        *word = NAMED;
+        Some(())
+    }
+
+    /// `None` if the number was defined before.
+    #[inline(always)]
+    fn define(&mut self, at: usize) -> Option<()> {
+        let word = self.table.get_mut(at)?;
+        self.undefined -= u32::from(*word == NAMED);
+        let is_new = *word == 0 || *word == NAMED;
+        *word = self.record;
+        is_new.then_some(())
+    }
+}
