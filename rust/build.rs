@@ -26,7 +26,7 @@ fn main() {
     };
     match newest(&project) {
         Ok((newest, _)) if modified(&archive).is_ok_and(|built| newest <= built) => (),
-        Ok((_, path)) => refuse(&format!("is older than {}", path.display())),
+        Ok((_, path)) => refuse(&format!("is older than {path}")),
         Err(error) => refuse(&format!("cannot be held against its sources: {error}")),
     }
     let digest = Digest::of(&bytes);
@@ -42,25 +42,20 @@ fn refuse(what: &str) -> ! {
 
 /// The source of the archive that was changed last: those of `export` and of
 /// the crates that it names in crates.txt.
-fn newest(project: &Path) -> io::Result<(SystemTime, PathBuf)> {
+fn newest(project: &Path) -> io::Result<(SystemTime, String)> {
     let listed = project.join("crates.txt");
     println!("cargo:rerun-if-changed={}", listed.display());
     let text = fs::read_to_string(&listed)?;
     let needs = text.lines().find_map(|line| line.strip_prefix("export:"));
     let crates = needs.unwrap_or("").split_whitespace().chain(["export"]);
-    let mut newest = (modified(&listed)?, PathBuf::from("crates.txt"));
-    let mut folders: Vec<PathBuf> = crates
-        .map(|name| project.join("crates").join(name).join("src"))
-        .collect();
-    while let Some(folder) = folders.pop() {
-        println!("cargo:rerun-if-changed={}", folder.display());
-        for entry in fs::read_dir(folder)? {
-            let path = entry?.path();
-            if path.is_dir() {
-                folders.push(path);
-            } else if modified(&path)? > newest.0 {
-                newest = (modified(&path)?, path);
-            }
+    let mut newest = (modified(&listed)?, "crates.txt".to_string());
+    for name in crates {
+        let folder = PathBuf::from("crates").join(name).join("src");
+        println!("cargo:rerun-if-changed={}", project.join(&folder).display());
+        for entry in fs::read_dir(project.join(&folder))? {
+            let path = folder.join(entry?.file_name());
+            let changed = modified(&project.join(&path))?;
+            newest = newest.max((changed, path.display().to_string()));
         }
     }
     Ok(newest)

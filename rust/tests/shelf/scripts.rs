@@ -157,6 +157,58 @@ fn without_rt_the_built_program_still_runs() {
     assert_eq!(without(&desk).ended(0).out.trim(), "5");
 }
 
+/// What is linked is what the sources say.
+#[test]
+fn an_archive_older_than_its_sources_is_not_linked() {
+    let desk = Desk::new("archive");
+    desk.put("crates.txt", b"one:\nother:\nexport: one\n");
+    let sources = ["one", "other", "export"].map(|name| format!("crates/{name}/src/lib.rt"));
+    for name in ["Cargo.toml", "Cargo.lock", "build.rs", "src/sha256.rs"] {
+        let file = fs::read(format!("{ROOT}/rust/{name}")).unwrap();
+        desk.put(format!("rust/{name}"), &file);
+    }
+    desk.put("rust/src/lib.rs", b"");
+    let build = || {
+        let cargo = std::env::var("CARGO").unwrap_or("cargo".to_string());
+        let mut command = desk.program(&cargo);
+        // Where cargo and rustc find their own.
+        for name in ["HOME", "RUSTUP_HOME", "CARGO_HOME", "RUSTUP_TOOLCHAIN"] {
+            command.envs(std::env::var_os(name).map(|value| (name, value)));
+        }
+        command.args(["build", "--offline", "--manifest-path", "rust/Cargo.toml"]);
+        Ran::of(command.output().unwrap())
+    };
+    let said = |ran: Ran, what: &str| assert!(ran.err.contains(what), "{}", ran.err);
+    for name in &sources {
+        desk.put(name, b"");
+    }
+    said(
+        build().ended(101),
+        "target/staticlib/libexport.a is not there: run",
+    );
+    desk.put("target/staticlib/libexport.a", b"!<arch>\n");
+    let built = fs::metadata(desk.path("target/staticlib/libexport.a")).unwrap();
+    let at = |name: &str, seconds: u64| {
+        let file = fs::File::options()
+            .append(true)
+            .open(desk.path(name))
+            .unwrap();
+        let when = built.modified().unwrap() + std::time::Duration::from_secs(seconds);
+        file.set_modified(when).unwrap();
+    };
+    for name in [&sources[0], &sources[2]] {
+        at(name, 10);
+        said(build().ended(101), &format!("is older than {name}"));
+        at("target/staticlib/libexport.a", 20);
+        build().ended(0);
+        at("target/staticlib/libexport.a", 0);
+        at(name, 0);
+    }
+    // Of a crate that it does not name nothing was built into it.
+    at(&sources[1], 10);
+    build().ended(0);
+}
+
 #[test]
 fn what_is_installed() {
     let desk = Desk::new("install");
