@@ -14,7 +14,6 @@ use Rattle.rules.specs.Digits.{val}
 use Rattle.rules.specs.Kinds.{dataCodes, kindFrom, starred, kindBetween, kindOf}
 use Rattle.rules.specs.Records.{codeAt}
 use Rattle.rules.proofs.Truth.{both, and, to-within, to≡, of≡, of≢, no≡, cases, is-no, not-both, or-cond}
-use Rattle.judging.specs.Judging.{kindsFrom}
 
 pub and-is : (x y : Bool) → (x && y) ≡ x & y
 unfolding _&_
@@ -39,19 +38,71 @@ pub digits : (a b : ℕ) → isDigit a & isDigit b ≡ true → (48 ≤ a) × (a
 unfolding isDigit
 digits a b h = let x = to-within (both h .0) in let y = to-within (both h .1) in (x .0, x .1, y .0, y .1)
 
--- the table at each number
-kinds-at : (k i n : ℕ) → i < k → getD (kindsFrom k n) i 0 ≡ kindFrom 1 (n + i) dataCodes
-kinds-at zero i n h = absurd (omega arith)
-kinds-at (suc k) zero n h = ap (λ m. kindFrom 1 m dataCodes) (omega arith)
-kinds-at (suc k) (suc i) n h = kinds-at k i (suc n) (omega arith) ∙ ap (λ m. kindFrom 1 m dataCodes) (omega arith)
+-- the number of a code
+module _ (n : ℕ) where
+  pub code-10 : n ≡ 10 → 1 ≡ kindFrom 1 n dataCodes
+  unfolding kindFrom dataCodes _=?_
+  code-10 e = rw e
 
-pub data-kind : (a b : ℕ) → isDigit a & isDigit b ≡ true → (x : ℕ) → x ≡ a - 48 → (y : ℕ) → y ≡ b - 48 → (k : ℕ) → k ≡ getD (kindsFrom 100 0) (x * 10 + y) 0
-    → (r : ℕ) → r ≡ k → r ≡ kindFrom 1 (val 0 (a ∷ b ∷ [])) dataCodes
+  pub code-11 : n ≡ 11 → 2 ≡ kindFrom 1 n dataCodes
+  unfolding kindFrom dataCodes _=?_
+  code-11 e = rw e
+
+  pub code-12 : n ≡ 12 → 3 ≡ kindFrom 1 n dataCodes
+  unfolding kindFrom dataCodes _=?_
+  code-12 e = rw e
+
+  pub code-25 : n ≡ 25 → 4 ≡ kindFrom 1 n dataCodes
+  unfolding kindFrom dataCodes _=?_
+  code-25 e = rw e
+
+  pub code-26 : n ≡ 26 → 5 ≡ kindFrom 1 n dataCodes
+  unfolding kindFrom dataCodes _=?_
+  code-26 e = rw e
+
+  pub code-27 : n ≡ 27 → 6 ≡ kindFrom 1 n dataCodes
+  unfolding kindFrom dataCodes _=?_
+  code-27 e = rw e
+
+  pub code-70 : n ≡ 70 → 7 ≡ kindFrom 1 n dataCodes
+  unfolding kindFrom dataCodes _=?_
+  code-70 e = rw e
+
+  pub code-72 : n ≡ 72 → 8 ≡ kindFrom 1 n dataCodes
+  unfolding kindFrom dataCodes _=?_
+  code-72 e = rw e
+
+  pub code-80 : n ≡ 80 → 9 ≡ kindFrom 1 n dataCodes
+  unfolding kindFrom dataCodes _=?_
+  code-80 e = rw e
+
+  pub code-86 : n ≡ 86 → 10 ≡ kindFrom 1 n dataCodes
+  unfolding kindFrom dataCodes _=?_
+  code-86 e = rw e
+
+  pub code-91 : n ≡ 91 → 11 ≡ kindFrom 1 n dataCodes
+  unfolding kindFrom dataCodes _=?_
+  code-91 e = rw e
+
+  pub code-92 : n ≡ 92 → 12 ≡ kindFrom 1 n dataCodes
+  unfolding kindFrom dataCodes _=?_
+  code-92 e = rw e
+
+  pub code-93 : n ≡ 93 → 13 ≡ kindFrom 1 n dataCodes
+  unfolding kindFrom dataCodes _=?_
+  code-93 e = rw e
+
+  pub no-code : (n ≡ 10 → ⊥) → (n ≡ 11 → ⊥) → (n ≡ 12 → ⊥) → (n ≡ 25 → ⊥) → (n ≡ 26 → ⊥) → (n ≡ 27 → ⊥) → (n ≡ 70 → ⊥) → (n ≡ 72 → ⊥) → (n ≡ 80 → ⊥) → (n ≡ 86 → ⊥) → (n ≡ 91 → ⊥) → (n ≡ 92 → ⊥) → (n ≡ 93 → ⊥) → 14 ≡ kindFrom 1 n dataCodes
+  unfolding kindFrom dataCodes
+  no-code a b c d e f g h i j k l m = rw (of≢ a, of≢ b, of≢ c, of≢ d, of≢ e, of≢ f, of≢ g, of≢ h, of≢ i, of≢ j, of≢ k, of≢ l, of≢ m)
+
+pub data-kind : (a b : ℕ) → isDigit a & isDigit b ≡ true → (x : ℕ) → x ≡ a - 48 → (y : ℕ) → y ≡ b - 48 → (k : ℕ) → k ≡ kindFrom 1 (x * 10 + y) dataCodes
+    → k ≡ kindFrom 1 (val 0 (a ∷ b ∷ [])) dataCodes
 unfolding val
-data-kind a b h x p y q k e r z =
+data-kind a b h x p y q k e =
     let d = digits a b h in
-    let n : 0 + (x * 10 + y) ≡ (0 * 10 + (a - 48)) * 10 + (b - 48) = omega arith in
-    z ∙ e ∙ kinds-at 100 (x * 10 + y) 0 (omega arith) ∙ ap (λ m. kindFrom 1 m dataCodes) n
+    let n : x * 10 + y ≡ (0 * 10 + (a - 48)) * 10 + (b - 48) = omega arith in
+    e ∙ ap (λ m. kindFrom 1 m dataCodes) n
 
 -- the three ways
 module _ (a b : ℕ) where

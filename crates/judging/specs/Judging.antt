@@ -76,11 +76,6 @@ passFrom before e l (r ∷ rs) =
 abbrev pub rowsOf : ℕ → ℕ → ℕ → List Row
 rowsOf k i j = take (j - i) (drop i (getD rowLists k []))
 
--- ---- the kind of each two-digit code
-abbrev pub kindsFrom : ℕ → ℕ → List ℕ
-kindsFrom zero n = []
-kindsFrom (suc k) n = kindFrom 1 n dataCodes ∷ kindsFrom k (suc n)
-
 -- ---- 80 printable bytes, and a line feed behind them
 unfoldable pub clean : List ℕ → Bool
 clean l = 81 ≤? length l & (all isPrintable (take 80 l) & getD l 80 0 =? 10)

@@ -1,8 +1,6 @@
 // Columns 7-10: the kind of a record by its code.
 use kinds::tables::wide;
 ghost use mathlib.Core.Path.{_≡_};
-ghost use Prim.Native.Nat.{_<_};
-ghost use lib.ListN.{getD};
 ghost use mathlib.Core.Bool.{true};
 ghost use mathlib.Core.List.{_∷_, []};
 ghost use Rattle.rules.specs.Tests.{_&_};
@@ -10,117 +8,27 @@ ghost use Rattle.rules.specs.Characters.{isDigit, isLetter, letter, digit, _or_
 ghost use Rattle.rules.specs.Digits.{val};
 ghost use Rattle.rules.specs.Kinds.{dataCodes, kindFrom, kindBetween, kindOf};
 ghost use Rattle.rules.specs.Records.{codeAt};
-ghost use Rattle.judging.specs.Judging.{kindsFrom};
 
-// The kind of each two-digit code, 14 where it is not known.
-const KINDS: [u8; 100] = [
-    14,
-    14,
-    14,
-    14,
-    14,
-    14,
-    14,
-    14,
-    14,
-    14,
-    1,
-    2,
-    3,
-    14,
-    14,
-    14,
-    14,
-    14,
-    14,
-    14,
-    14,
-    14,
-    14,
-    14,
-    14,
-    4,
-    5,
-    6,
-    14,
-    14,
-    14,
-    14,
-    14,
-    14,
-    14,
-    14,
-    14,
-    14,
-    14,
-    14,
-    14,
-    14,
-    14,
-    14,
-    14,
-    14,
-    14,
-    14,
-    14,
-    14,
-    14,
-    14,
-    14,
-    14,
-    14,
-    14,
-    14,
-    14,
-    14,
-    14,
-    14,
-    14,
-    14,
-    14,
-    14,
-    14,
-    14,
-    14,
-    14,
-    14,
-    7,
-    14,
-    8,
-    14,
-    14,
-    14,
-    14,
-    14,
-    14,
-    14,
-    9,
-    14,
-    14,
-    14,
-    14,
-    14,
-    10,
-    14,
-    14,
-    14,
-    14,
-    11,
-    12,
-    13,
-    14,
-    14,
-    14,
-    14,
-    14,
-    14,
-];
-
-fn kind_of_number(n: usize) -> u8
-    requires { ⌜ n < 100 ⌝ }
-    ensures { λ r. ⌜ r ≡ getD (kindsFrom 100 0) n 0 ⌝ }
+// The kind of each two-digit code, 14 where it is not known. The compiler makes this a table that is never copied.
+fn kind_of_number(n: usize) -> usize
+    ensures { λ r. ⌜ r ≡ kindFrom 1 n dataCodes ⌝ }
 {
-    KINDS[n]
+    match n {
+        10 => 1,
+        11 => 2,
+        12 => 3,
+        25 => 4,
+        26 => 5,
+        27 => 6,
+        70 => 7,
+        72 => 8,
+        80 => 9,
+        86 => 10,
+        91 => 11,
+        92 => 12,
+        93 => 13,
+        _ => 14,
+    }
 }
 
 fn is_data(a: u8, b: u8) -> bool
@@ -140,7 +48,7 @@ fn data_kind(a: u8, b: u8) -> usize
     ensures { λ r. ⌜ r ≡ kindFrom 1 (val 0 (a ∷ b ∷ [])) dataCodes ⌝ }
 {
     let n = wide(a - 48) * 10 + wide(b - 48);
-    wide(kind_of_number(n))
+    kind_of_number(n)
 }
 
 // Two digits are a data code; a letter followed by a letter or digit is a job code.

@@ -30,8 +30,9 @@ ghost use mathlib.Core.List.{map};
 ghost use Prim.Native.Nat.{_+_, _≤_, _<_};
 ghost use lib.ListN.{length, getD};
 ghost use Rattle.rules.specs.Items.{good, spot};
-ghost use Rattle.rules.specs.Fields.{read, judge, meets, sameTruth};
+ghost use Rattle.rules.specs.Fields.{isOk, read, judge, meets, sameTruth};
 ghost use Rattle.rules.specs.Layouts.{layouts, kept};
+ghost use Rattle.rules.specs.Records.{bytes};
 ghost use Rattle.kinds.specs.Tables.{itemOf};
 ghost use Rattle.kinds.specs.Values.{judgedOf, expectOf};
 ghost use Rattle.judging.specs.Judging.{agreesIn, judgeRow, judgeRowAt, sized};
@@ -178,7 +179,7 @@ fn judge_rows(line: &[u8], kind: usize, e: Expect) -> Judged
 
 // The fields from column 11 on of a line of a kind. Hardly a record has a fault, so the kinds that come often are first tested as a whole.
 pub fn judge_fields(line: &[u8], kind: usize, e: Expect) -> Judged
-    requires { ⌜ (80 ≤ length (now line)) × (kind < 14) ⌝ }
+    requires { ⌜ (80 ≤ length (now line)) × (kind < 14) × (isOk (bytes 80 1 (now line)) ≡ true) ⌝ }
     ensures { λ r. ⌜ r ≡ judgedOf (judge (expectOf e) (map (read (now (line .entry))) (getD layouts kind kept))) ⌝ }
 {
     if is_good(line, kind, e) {

@@ -2,7 +2,6 @@
 // that nothing is looked up and no column is tested by itself.
 use crate::fields::agrees_item;
 use crate::fields::good_item;
-use kinds::Comment;
 use kinds::Expect;
 use kinds::Heights;
 use kinds::Measurement;
@@ -16,6 +15,7 @@ ghost use mathlib.Core.List.{map};
 ghost use Prim.Native.Nat.{_+_, _≤_, _<_};
 ghost use lib.ListN.{length, getD};
 ghost use Rattle.rules.specs.Items.{good};
+ghost use Rattle.rules.specs.Records.{bytes};
 ghost use Rattle.rules.specs.Fields.{isOk, read, judge};
 ghost use Rattle.rules.specs.Layouts.{layouts, kept};
 ghost use Rattle.kinds.specs.Tables.{itemOf};
@@ -39,18 +39,6 @@ fn agrees(e: Expect, line: &[u8], bond: Bond, first: usize, width: usize) -> boo
     let at = first - 1;
     let end = at + width;
     agrees_item(e, line, bond, &line[at..end])
-}
-
-fn good_comment(line: &[u8], e: Expect) -> bool
-    requires { ⌜ 80 ≤ length (now line) ⌝ }
-    ensures { λ r. ⌜ r ≡ passFrom true (expectOf e) (now (line .entry)) (rowsOf 5 0 1) ⌝ }
-{
-    stands(
-        line,
-        Item::Printable,
-        Comment::COMMENT,
-        Comment::COMMENT_WIDTH,
-    )
 }
 
 fn good_occupation(line: &[u8], e: Expect) -> bool
@@ -281,17 +269,21 @@ fn good_heights(line: &[u8], e: Expect) -> bool
     good_ellipsoid(good_geoid(good_orthometric(line, e), line, e), line, e)
 }
 
-// True only of a record without a fault; of the kinds that come seldom it is never true.
+// True only of a record without a fault; of the kinds that come seldom it is never true. Where all is text, the bytes were judged already.
 pub(crate) fn is_good(line: &[u8], kind: usize, e: Expect) -> bool
-    requires { ⌜ (80 ≤ length (now line)) × (kind < 14) ⌝ }
+    requires { ⌜ (80 ≤ length (now line)) × (kind < 14) × (isOk (bytes 80 1 (now line)) ≡ true) ⌝ }
     ensures { λ r. ⌜ (r ≡ true → isOk (judge (expectOf e) (map (read (now (line .entry))) (getD layouts kind kept))) ≡ true) ⌝ }
 {
     match kind {
+        0 => true,
         4 => good_occupation(line, e),
-        5 => good_comment(line, e),
+        5 => true,
         6 => good_measurement(line, e),
         9 => good_point(line, e),
         10 => good_heights(line, e),
+        11 => true,
+        12 => true,
+        13 => true,
         _ => false,
     }
 }

@@ -3,6 +3,7 @@ use mathlib.Core.Path.{_≡_, refl, sym, _∙_, ap}
 use mathlib.Core.Bool.{Bool, true, false, cond}
 use mathlib.Core.List.{List, map}
 use Prim.Native.Nat.{ℕ, _+_, _-_, _≤_, _<_}
+use native.Mathlib.Nat.{add-sub-cancel-left}
 use native.Mathlib.Omega.{arith}
 use lib.IntN.{ℤ, pos, negsuc}
 use lib.Dec.{lit≤}
@@ -146,20 +147,37 @@ int-height (num z) = refl
 int-height (text t) = refl
 int-height (label m d y s t) = refl
 
-module _ (l p : List ℕ) where
-  module _ (c w : ℕ) (h : w ≤ 8) (e : p ≡ take w (drop (c - 1) l)) (k : Count) (z : k ≡ cond (length p ≤? 8) (countOf (valueOf (number 0 0 0 true) p)) Count.Missing) where
-    counted : natCount k ≡ natIn c w l
+module _ (p : List ℕ) (h : length p ≤ 8) (k : Count) (z : k ≡ cond (length p ≤? 8) (countOf (valueOf (number 0 0 0 true) p)) Count.Missing) where
+  counted : natCount k ≡ natOf (valueOf (number 0 0 0 true) p)
+  counted =
+      let few : length p ≤? 8 ≡ true = of≤ h in
+      let k-is : k ≡ countOf (valueOf (number 0 0 0 true) p) = z ∙ rw few in
+      ap natCount k-is ∙ nat-count (valueOf (number 0 0 0 true) p)
+
+  pub number-missing : k ≡ Count.Missing → 0 ≡ natOf (valueOf (number 0 0 0 true) p)
+  number-missing q = sym (ap natCount q) ∙ counted
+
+  pub number-given : (n : ℕ) → k ≡ Count.Is n → n ≡ natOf (valueOf (number 0 0 0 true) p)
+  number-given n q = sym (ap natCount q) ∙ counted
+
+-- columns that are all there, and columns of which some may not be
+module _ (l : List ℕ) (c w : ℕ) where
+  pub there-few : w ≤ 8 → length (take (c - 1 + w - (c - 1)) (drop (c - 1) l)) ≤ 8
+  there-few h = let m : length (take w (drop (c - 1) l)) ≤ w = length-take-most w (drop (c - 1) l) in rw (add-sub-cancel-left (c - 1) w) (omega (arith, m))
+
+  pub number-there : (r : ℕ) → r ≡ natOf (valueOf (number 0 0 0 true) (take (c - 1 + w - (c - 1)) (drop (c - 1) l))) → r ≡ natIn c w l
+  unfolding natIn
+  number-there r q = q ∙ rw (add-sub-cancel-left (c - 1) w)
+
+  module _ (p : List ℕ) (e : p ≡ take w (drop (c - 1) l)) where
+    pub part-few : w ≤ 8 → length p ≤ 8
+    part-few h = let m : length (take w (drop (c - 1) l)) ≤ w = length-take-most w (drop (c - 1) l) in rw e (omega (arith, m))
+
+    pub number-part : (r : ℕ) → r ≡ natOf (valueOf (number 0 0 0 true) p) → r ≡ natIn c w l
     unfolding natIn
-    counted =
-        let k-is : k ≡ countOf (valueOf (number 0 0 0 true) (take w (drop (c - 1) l))) = z ∙ rw e (told w 8 (drop (c - 1) l) _ _ h) in
-        ap natCount k-is ∙ nat-count (valueOf (number 0 0 0 true) (take w (drop (c - 1) l)))
+    number-part r q = q ∙ rw e
 
-    pub number-missing : k ≡ Count.Missing → 0 ≡ natIn c w l
-    number-missing q = sym (ap natCount q) ∙ counted
-
-    pub number-given : (n : ℕ) → k ≡ Count.Is n → n ≡ natIn c w l
-    number-given n q = sym (ap natCount q) ∙ counted
-
+module _ (l p : List ℕ) where
   module _ (e : p ≡ take 6 l) (k : Count) (z : k ≡ cond (length p ≤? 8) (countOf (valueOf (number 0 0 0 true) p)) Count.Missing) where
     sequenced : sequenceCount k ≡ sequenceOf (valueOf sequence (take 6 l))
     unfolding sequence valueOf

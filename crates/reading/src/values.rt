@@ -30,11 +30,12 @@ use kinds::Title;
 use kinds::Two;
 ghost use mathlib.Core.Path.{_≡_};
 ghost use Prim.Native.Nat.{_≤_, _-_, _<_};
-ghost use lib.ListN.{take, drop, getD};
-ghost use Rattle.rules.specs.Items.{valueOf};
+ghost use mathlib.Core.Bool.{true};
+ghost use lib.ListN.{length, take, drop, getD};
+ghost use Rattle.rules.specs.Items.{valueOf, number};
 ghost use Rattle.rules.specs.Records.{sequence};
 ghost use Rattle.kinds.specs.Values.{sequenceOf, two, three};
-ghost use Rattle.columns.specs.Types.{four};
+ghost use Rattle.columns.specs.Types.{four, natOf};
 ghost use Rattle.reading.specs.Values.{natIn, monthIn, riseIn, heightIn, projectIn, occupationIn, measurementIn, instrumentIn, antennaIn, pointIn, heightsIn, jobIn, recordIn};
 
 pub fn read_sequence(line: &[u8]) -> Sequence
@@ -46,15 +47,31 @@ pub fn read_sequence(line: &[u8]) -> Sequence
     }
 }
 
-// A number that is never missing.
+// The number of some columns, 0 where they are blank.
+fn number_of(part: &[u8]) -> u32
+    requires { ⌜ length (now part) ≤ 8 ⌝ }
+    ensures { λ r. ⌜ r ≡ natOf (valueOf (number 0 0 0 true) (now (part .entry))) ⌝ }
+{
+    match read_count(part) {
+        Count::Missing => 0,
+        Count::Is(n) => n,
+    }
+}
+
+// A number that is never missing. Columns that are all there have a width that the compiler knows.
 pub fn number_in(line: &[u8], first: usize, width: usize) -> u32
     requires { ⌜ (1 ≤ first) × (width ≤ 8) ⌝ }
     ensures { λ r. ⌜ r ≡ natIn first width (now (line .entry)) ⌝ }
 {
-    match read_count(middle(line, first - 1, width)) {
-        Count::Missing => 0,
-        Count::Is(n) => n,
+    let at = first - 1;
+    let n = line.len();
+    if at < n {
+        if width <= n - at {
+            let end = at + width;
+            return number_of(&line[at..end]);
+        }
     }
+    number_of(middle(line, at, width))
 }
 
 fn month_in(line: &[u8], first: usize) -> u32

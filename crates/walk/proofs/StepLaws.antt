@@ -41,6 +41,9 @@ module _ (s : Kept) (r : ℕ) (l : List ℕ) (k : ℕ) (e : k ≡ kindOf (codeAt
   placed-bytes h b p m c q = rw (in-time h) (unfold judgeLine in sym (bad-then (bytes 80 1 l) _ m c (sym p ∙ q)))
 
   module _ (h : r ≤ 99_999) (b : Judged) (p : b ≡ judgedOf (bytes 80 1 l)) (q : b ≡ Judged.Good) where
+    pub placed-fine : isOk (bytes 80 1 l) ≡ true
+    placed-fine = ap isOk (good-is (bytes 80 1 l) (sym p ∙ q)) ∙ (unfold isOk in refl)
+
     pub placed-long : 80 ≤ length l
     placed-long = let t : 80 < length l = bytes-length 1 80 l (ap isOk (good-is (bytes 80 1 l) (sym p ∙ q)) ∙ (unfold isOk in refl)) in omega arith
 

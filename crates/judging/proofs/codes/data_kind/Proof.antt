@@ -14,6 +14,5 @@ data-kind-spec =
     (λ c. omega (arith, digits _ _ (c .before .pre) .2))
     (λ c κs. search needs)
     (λ c. search needs)
-    (λ c κs. let d = digits _ _ (c .before .before .pre) in omega arith)
     (λ c κs. search needs)
     (λ c. search (data-kind, needs)))

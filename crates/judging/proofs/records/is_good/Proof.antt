@@ -1,88 +1,62 @@
-use mathlib.Core.Bool.{false≢true}
+use mathlib.Core.Path.{refl}
+use mathlib.Core.Bool.{true, false≢true}
 use Rattle.kinds.specs.Values.{expectOf}
-use Rattle.judging.proofs.RecordLaws.{kind-good}
+use Rattle.judging.proofs.RecordLaws.{kind-good, text-passes}
 use borrow.Author.Needs.{needs}
 use Rattle.judging.proofs.records.is_good.Statement.{statement}
 use Rattle.judging.proofs.records.is_good.Tie as tie
-use Rattle.judging.proofs.records.is_good.Reads as reads
-use Rattle.judging.proofs.records.is_good.Lts as lts
-use Rattle.judging.proofs.records.good_comment.Reads as good-comment-reads
-use Rattle.judging.proofs.records.good_heights.Reads as good-heights-reads
-use Rattle.judging.proofs.records.good_measurement.Reads as good-measurement-reads
-use Rattle.judging.proofs.records.good_occupation.Reads as good-occupation-reads
-use Rattle.judging.proofs.records.good_point.Reads as good-point-reads
 
--- src/records.rt:290:14
-good-occupation-requires : tie.Need-good-occupation-requires
-good-occupation-requires c κs = search needs
-
--- src/records.rt:291:14
-good-comment-requires : tie.Need-good-comment-requires
-good-comment-requires c κs = search needs
-
--- src/records.rt:292:14
-good-measurement-requires : tie.Need-good-measurement-requires
-good-measurement-requires c κs = search needs
-
--- src/records.rt:293:14
-good-point-requires : tie.Need-good-point-requires
-good-point-requires c κs = search needs
-
--- src/records.rt:294:15
-good-heights-requires : tie.Need-good-heights-requires
-good-heights-requires c κs = search needs
-
--- src/records.rt:285:1
 returns : tie.Need-returns
 returns c =
-    let m = c .before in
-    let s = m .before .before in
-    kind-good (expectOf (s .args .e)) (s .args .line .now) (s .args .kind) 4 (s .pre .1) (m .match .keys1) (c .good-occupation .result) (c .good-occupation .ensures)
+    let s = c .before .before in
+    kind-good (expectOf (s .args .e)) (s .args .line .now) (s .args .kind) 0 (s .pre .1) (c .match .keys1) true (text-passes _ (s .args .line .now) _ refl refl refl refl (s .pre .0) (s .pre .2))
 
--- src/records.rt:285:1
 returns-2 : tie.Need-returns-2
 returns-2 c =
     let m = c .before in
     let s = m .before .before in
-    kind-good (expectOf (s .args .e)) (s .args .line .now) (s .args .kind) 5 (s .pre .1) (m .match .keys2) (c .good-comment .result) (c .good-comment .ensures)
+    kind-good (expectOf (s .args .e)) (s .args .line .now) (s .args .kind) 4 (s .pre .1) (m .match .keys2) (c .good-occupation .result) (c .good-occupation .ensures)
 
--- src/records.rt:285:1
 returns-3 : tie.Need-returns-3
 returns-3 c =
-    let m = c .before in
-    let s = m .before .before in
-    kind-good (expectOf (s .args .e)) (s .args .line .now) (s .args .kind) 6 (s .pre .1) (m .match .keys3) (c .good-measurement .result) (c .good-measurement .ensures)
+    let s = c .before .before in
+    kind-good (expectOf (s .args .e)) (s .args .line .now) (s .args .kind) 5 (s .pre .1) (c .match .keys3) true (text-passes _ (s .args .line .now) _ refl refl refl refl (s .pre .0) (s .pre .2))
 
--- src/records.rt:285:1
 returns-4 : tie.Need-returns-4
 returns-4 c =
     let m = c .before in
     let s = m .before .before in
-    kind-good (expectOf (s .args .e)) (s .args .line .now) (s .args .kind) 9 (s .pre .1) (m .match .keys4) (c .good-point .result) (c .good-point .ensures)
+    kind-good (expectOf (s .args .e)) (s .args .line .now) (s .args .kind) 6 (s .pre .1) (m .match .keys4) (c .good-measurement .result) (c .good-measurement .ensures)
 
--- src/records.rt:285:1
 returns-5 : tie.Need-returns-5
 returns-5 c =
     let m = c .before in
     let s = m .before .before in
-    kind-good (expectOf (s .args .e)) (s .args .line .now) (s .args .kind) 10 (s .pre .1) (m .match .keys5) (c .good-heights .result) (c .good-heights .ensures)
+    kind-good (expectOf (s .args .e)) (s .args .line .now) (s .args .kind) 9 (s .pre .1) (m .match .keys5) (c .good-point .result) (c .good-point .ensures)
 
--- src/records.rt:285:1
 returns-6 : tie.Need-returns-6
-returns-6 c = λ q. absurd (false≢true q)
+returns-6 c =
+    let m = c .before in
+    let s = m .before .before in
+    kind-good (expectOf (s .args .e)) (s .args .line .now) (s .args .kind) 10 (s .pre .1) (m .match .keys6) (c .good-heights .result) (c .good-heights .ensures)
+
+returns-7 : tie.Need-returns-7
+returns-7 c =
+    let s = c .before .before in
+    kind-good (expectOf (s .args .e)) (s .args .line .now) (s .args .kind) 11 (s .pre .1) (c .match .keys7) true (text-passes _ (s .args .line .now) _ refl refl refl refl (s .pre .0) (s .pre .2))
+
+returns-8 : tie.Need-returns-8
+returns-8 c =
+    let s = c .before .before in
+    kind-good (expectOf (s .args .e)) (s .args .line .now) (s .args .kind) 12 (s .pre .1) (c .match .keys8) true (text-passes _ (s .args .line .now) _ refl refl refl refl (s .pre .0) (s .pre .2))
+
+returns-9 : tie.Need-returns-9
+returns-9 c =
+    let s = c .before .before in
+    kind-good (expectOf (s .args .e)) (s .args .line .now) (s .args .kind) 13 (s .pre .1) (c .match .keys9) true (text-passes _ (s .args .line .now) _ refl refl refl refl (s .pre .0) (s .pre .2))
+
+returns-10 : tie.Need-returns-10
+returns-10 c = λ q. absurd (false≢true q)
 
 pub is-good-spec : {M : Type 1} → statement M
-is-good-spec =
-    tie.close
-    (tie.spec
-    good-occupation-requires
-    good-comment-requires
-    good-measurement-requires
-    good-point-requires
-    good-heights-requires
-    returns
-    returns-2
-    returns-3
-    returns-4
-    returns-5
-    returns-6)
+is-good-spec = tie.close (tie.spec (λ c κs. search needs) (λ c κs. search needs) (λ c κs. search needs) (λ c κs. search needs) returns returns-2 returns-3 returns-4 returns-5 returns-6 returns-7 returns-8 returns-9 returns-10)

@@ -1,16 +1,46 @@
-use mathlib.Core.Path.{_∙_}
 use borrow.Author.Needs.{needs}
-use native.Mathlib.Omega.{arith}
-use Prim.Native.Nat.{_-_, _<_}
-use Rattle.writing.proofs.StyleLaws.{Styled, style-from, style-fine, style-on, style-done}
+use Rattle.writing.proofs.StyleLaws.{rest-stays}
 use Rattle.writing.proofs.styles.style_fields.Statement.{statement}
 use Rattle.writing.proofs.styles.style_fields.Tie as tie
 
-abbrev Inv-loop : tie.InvT-loop
-Inv-loop line kind out₀ end i₀ out i = Styled line out₀ kind end i out
+occupation-requires : tie.Need-style-occupation-requires
+occupation-requires c κs = rw (c .before .match .keys1) at (c .before .before .before .before .pre .1)
 
-abbrev μ-loop : tie.MeasureT-loop
-μ-loop line kind out₀ end i₀ out i = end - i
+measurement-requires : tie.Need-style-measurement-requires
+measurement-requires c κs = rw (c .before .match .keys2) at (c .before .before .before .before .pre .1)
+
+instrument-requires : tie.Need-style-instrument-requires
+instrument-requires c κs = rw (c .before .match .keys3) at (c .before .before .before .before .pre .1)
+
+antenna-requires : tie.Need-style-antenna-requires
+antenna-requires c κs = rw (c .before .match .keys4) at (c .before .before .before .before .pre .1)
+
+point-requires : tie.Need-style-point-requires
+point-requires c κs = rw (c .before .match .keys5) at (c .before .before .before .before .pre .1)
+
+heights-requires : tie.Need-style-heights-requires
+heights-requires c κs = rw (c .before .match .keys6) at (c .before .before .before .before .pre .1)
+
+returns : tie.Need-returns
+returns c = rw (c .before .before .before .before .match .keys1) (c .before .before .style-occupation .ensures)
+
+returns-2 : tie.Need-returns-2
+returns-2 c = rw (c .before .before .before .before .match .keys2) (c .before .before .style-measurement .ensures)
+
+returns-3 : tie.Need-returns-3
+returns-3 c = rw (c .before .before .before .before .match .keys3) (c .before .before .style-instrument .ensures)
+
+returns-4 : tie.Need-returns-4
+returns-4 c = rw (c .before .before .before .before .match .keys4) (c .before .before .style-antenna .ensures)
+
+returns-5 : tie.Need-returns-5
+returns-5 c = rw (c .before .before .before .before .match .keys5) (c .before .before .style-point .ensures)
+
+returns-6 : tie.Need-returns-6
+returns-6 c = rw (c .before .before .before .before .match .keys6) (c .before .before .style-heights .ensures)
+
+returns-7 : tie.Need-returns-7
+returns-7 c = search (rest-stays, needs)
 
 pub style-fields-spec : {M : Type 1} → statement M
-style-fields-spec = tie.close (tie.spec Inv-loop μ-loop (λ c. search needs) (λ c κs. search needs) (λ c κs. search needs) (λ c κs. search needs) (λ c κs. search needs) (λ c. style-from _ _ _ _ _ (c .before .before .before .before .before .before .pre .0) (c .before .before .before .before .before .before .pre .2) (c .before .before .before .before .before .before .pre .3) (c .before .before .wide .ensures ∙ c .before .before .before .start-at .ensures) (c .wide2 .ensures ∙ c .before .start-at2 .ensures)) (λ c κs. let v = c .before .before .loop .inv in let t = c .before .loop-test .taken in let k : c .before .before .loop .i < 67 = omega arith in (k, c .before .before .before .before .before .before .before .before .before .pre .1, v .long, style-fine v t)) (λ c. search needs) (λ c. search needs) (λ c. style-on (c .before .before .before .before .before .loop .inv) (c .before .before .before .before .loop-test .taken) (c .before .before .style-row .ensures)) (λ c. search needs) (λ c. style-done (c .before .loop .inv) (c .loop-test .left)))
+style-fields-spec = tie.close (tie.spec occupation-requires measurement-requires instrument-requires antenna-requires point-requires heights-requires (λ c. search needs) returns (λ c. search needs) returns-2 (λ c. search needs) returns-3 (λ c. search needs) returns-4 (λ c. search needs) returns-5 (λ c. search needs) returns-6 returns-7)

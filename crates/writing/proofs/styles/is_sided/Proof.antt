@@ -1,0 +1,11 @@
+use borrow.Author.Needs.{needs}
+use Rattle.writing.specs.Styling.{valueIn, sided}
+use Rattle.writing.proofs.styles.is_sided.Statement.{statement}
+use Rattle.writing.proofs.styles.is_sided.Tie as tie
+
+returns : tie.Need-returns
+unfolding sided valueIn
+returns c = rw (c .value-of .ensures)
+
+pub is-sided-spec : {M : Type 1} → statement M
+is-sided-spec = tie.close (tie.spec (λ c κs. search needs) returns)
