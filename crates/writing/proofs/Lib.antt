@@ -4,4 +4,5 @@ pub mod KindLaws  -- the tests of each kind of record
 pub mod LayLaws  -- fields laid into a line
 pub mod GivenLaws  -- a record as it is given to write
 pub mod WriteLaws  -- what the promise of write says
-pub mod StyleLaws  -- a good line in house style
+pub mod StandLaws  -- what stands in house style already
+pub mod StyleLaws  -- a copy of a good line, changed in place

@@ -1,4 +1,6 @@
-// The record of a good line in house style: the line as it stands, then its numbers, heights and angles anew.
+// The record of a good line in house style: the line as it stands, and in this copy, in place, the numbers, heights and angles that are
+// not in house style yet. The tests of what stands already are small, so that the compiler puts them where they are asked and calls nothing;
+// only what has to be read and written again is a call.
 use crate::laying::lay_number;
 use crate::laying::lay_one;
 use columns::Way;
@@ -18,23 +20,20 @@ use kinds::Measurement;
 use kinds::Occupation;
 use kinds::Point;
 use kinds::Sequence;
-use kinds::tables::Item;
 ghost use mathlib.Core.Path.{_≡_};
+ghost use mathlib.Core.Bool.{true};
 ghost use mathlib.Core.List.{[], map};
-ghost use mathlib.Core.Bool.{true, _||_};
-ghost use lib.Dec.{leb};
-ghost use Rattle.rules.specs.Tests.{all, _=?_};
-ghost use Rattle.rules.specs.Characters.{isBlank};
 ghost use Prim.Native.Nat.{_+_, _≤_, _<_};
 ghost use lib.IntN.{pos};
 ghost use lib.ListN.{length, getD, take};
-ghost use Rattle.rules.specs.Items.{num, good, width, heightForm, angle, columns, plus};
+ghost use Rattle.rules.specs.Tests.{_=?_};
+ghost use Rattle.rules.specs.Items.{num, columns, plus};
 ghost use Rattle.rules.specs.Records.{codeAt, formedLine, meaning, lineOf};
 ghost use Rattle.rules.specs.Kinds.{kindOf};
 ghost use Rattle.rules.specs.Chapter4.{chapter4};
 ghost use Rattle.columns.specs.Types.{wayOf};
-ghost use Rattle.kinds.specs.Tables.{itemOf, rowLists, row};
-ghost use Rattle.writing.specs.Styling.{filled, negative, sided, heightStyle, angleStyle, narrow, styleOf, goodRow, styleRow, styleRows, Copied};
+ghost use Rattle.kinds.specs.Tables.{rowLists};
+ghost use Rattle.writing.specs.Styling.{filled, heightStands, heightAnew, heightStyle, sided, angleStands, angleAnew, angleStyle, changed, changeRows};
 
 // A blank before a number's digits is a zero in house style.
 fn zero_for_blank(b: u8) -> u8
@@ -48,47 +47,36 @@ fn zero_for_blank(b: u8) -> u8
 
 // A good number that is not missing has nothing but blanks and digits, so no value is read and none is written. No branch: the
 // compiler fills many columns at once.
-fn fill_number(part: &[u8], out: &mut [u8])
-    requires { ⌜ length (now out) ≡ length (now part) ⌝ }
-    ensures { λ _. ⌜ now (out .exit) ≡ map filled (now (part .entry)) ⌝ }
+fn fill_blanks(part: &mut [u8])
+    ensures { λ _. ⌜ now (part .exit) ≡ map filled (now (part .entry)) ⌝ }
 {
     let n = part.len();
     let mut i: usize = 0;
     while i < n {
-        out[i] = zero_for_blank(part[i]);
+        part[i] = zero_for_blank(part[i]);
         i += 1;
     }
 }
 
-// A good height that begins with a digit, or is missing, is in house style as it stands.
-fn is_settled(part: &[u8]) -> bool
-    ensures { λ r. ⌜ r ≡ (leb 48 (getD (now (part .entry)) 0 0) || all isBlank (now (part .entry))) ⌝ }
-{
-    (48 <= byte_at(part, 0)) | all_blank(part)
-}
-
-// A minus in front, and not zero: as it stands too.
-fn is_negative(part: &[u8]) -> bool
-    ensures { λ r. ⌜ r ≡ negative (now (part .entry)) ⌝ }
+// A good height that begins with a digit is in house style; with a minus, if it is not zero; else if it is missing.
+fn height_stands(part: &[u8]) -> bool
+    ensures { λ r. ⌜ r ≡ heightStands (now (part .entry)) ⌝ }
 {
     let first = byte_at(part, 0);
-    let value = value_of(part);
-    (first == 45) & (value != 0)
+    if 48 <= first {
+        return true;
+    }
+    if first == 45 {
+        return value_of(part) != 0;
+    }
+    all_blank(part)
 }
 
-fn style_height(part: &[u8], out: &mut [u8])
-    requires { ⌜ (length (now out) ≡ length (now part)) × (length (now part) ≤ 7) × (heightForm (now part) ≡ true) ⌝ }
-    ensures { λ _. ⌜ now (out .exit) ≡ heightStyle (length (now (out .entry))) (now (part .entry)) ⌝ }
+fn write_height(part: &mut [u8])
+    ensures { λ _. ⌜ now (part .exit) ≡ heightAnew (now (part .entry)) ⌝ }
 {
-    if is_settled(part) {
-        put_text(out, part);
-        return;
-    }
-    if is_negative(part) {
-        put_text(out, part);
-        return;
-    }
-    put_height(out, read_height(part));
+    let h = read_height(part);
+    put_height(part, h);
 }
 
 // North or east.
@@ -101,7 +89,7 @@ fn is_plus(part: &[u8], way: Way) -> bool
     }
 }
 
-// Neither zero nor 180 degrees: an angle that is written south or west stands so.
+// Neither zero nor 180 degrees, which are never south or west.
 fn is_sided(digits: &[u8]) -> bool
     ensures { λ r. ⌜ r ≡ sided (now (digits .entry)) ⌝ }
 {
@@ -118,217 +106,121 @@ fn has_side(part: &[u8], way: Way) -> bool
     }
 }
 
-// A good angle north or east is in house style as it stands; zero is not west, and 180 degrees are not either.
-fn style_angle(part: &[u8], way: Way, out: &mut [u8])
-    requires { ⌜ (length (now out) ≡ length (now part)) × (good (angle (wayOf way)) (now part) ≡ true) ⌝ }
-    ensures { λ _. ⌜ now (out .exit) ≡ angleStyle (wayOf way) (now (part .entry)) (now (out .entry)) ⌝ }
+fn angle_stands(part: &[u8], way: Way) -> bool
+    ensures { λ r. ⌜ r ≡ angleStands (wayOf way) (now (part .entry)) ⌝ }
 {
     if is_plus(part, way) {
-        put_text(out, part);
-        return;
+        return true;
     }
-    if has_side(part, way) {
-        put_text(out, part);
-        return;
-    }
-    put_angle(out, read_angle(part, way), way);
+    has_side(part, way)
 }
 
-// A good field that is no number, height or angle is in house style as it stands.
-fn style_item(item: Item, part: &[u8], out: &mut [u8])
-    requires { ⌜ (length (now out) ≡ length (now part)) × (narrow (itemOf item (length (now part))) ≡ true) × (good (itemOf item (length (now part))) (now part) ≡ true) ⌝ }
-    ensures { λ _. ⌜ now (out .exit) ≡ styleOf (itemOf item (length (now (part .entry)))) (now (part .entry)) ⌝ }
+fn write_angle(part: &mut [u8], way: Way)
+    ensures { λ _. ⌜ now (part .exit) ≡ angleAnew (wayOf way) (now (part .entry)) ⌝ }
 {
-    match item {
-        Item::Blank => put_text(out, part),
-        Item::Method => put_text(out, part),
-        Item::Station => fill_number(part, out),
-        Item::Equipment => fill_number(part, out),
-        Item::Date => fill_number(part, out),
-        Item::Time => fill_number(part, out),
-        Item::Rise => style_height(part, out),
-        Item::Metres => style_height(part, out),
-        Item::Month => put_text(out, part),
-        Item::Media => put_text(out, part),
-        Item::Latitude => style_angle(part, Way::Latitude, out),
-        Item::Longitude => style_angle(part, Way::Longitude, out),
-        Item::Letter => put_text(out, part),
-        Item::LetterOrSpace => put_text(out, part),
-        Item::LetterOrDigitOrSpace => put_text(out, part),
-        Item::YesNoOrSpace => put_text(out, part),
-        Item::Pair => put_text(out, part),
-        Item::Datum => put_text(out, part),
-        Item::Title => put_text(out, part),
-        Item::Name => put_text(out, part),
-        Item::Printable => put_text(out, part),
-    }
+    let z = read_angle(part, way);
+    put_angle(part, z, way);
 }
 
-// The columns from `first` on.
-fn style_part(line: &[u8], item: Item, first: usize, w: usize, out: &mut [u8])
-    requires { ⌜ (length (now line) ≡ 81) × (length (now out) ≡ 81) × (1 ≤ first) × (first + w ≤ 81) × (narrow (itemOf item w) ≡ true) × (width (itemOf item w) ≡ w) × (goodRow (now line) (row item first w) ≡ true) ⌝ }
-    ensures { λ _. ⌜ now (out .exit) ≡ styleRow (now (line .entry)) (row item first w) (now (out .entry)) ⌝ }
+// The columns from `first` on of a line of 81.
+fn style_number(line: &mut [u8], first: usize, w: usize)
+    requires { ⌜ (length (now line) ≡ 81) × (1 ≤ first) × (first + w ≤ 81) ⌝ }
+    ensures { λ _. ⌜ now (line .exit) ≡ changed (map filled) first w (now (line .entry)) ⌝ }
 {
     let at = first - 1;
     let end = at + w;
-    style_item(item, &line[at..end], &mut out[at..end]);
+    fill_blanks(&mut line[at..end]);
 }
 
-fn style_occupation(line: &[u8], out: &mut [u8])
-    requires { ⌜ Copied 4 (now line) (now out) ⌝ }
-    ensures { λ _. ⌜ now (out .exit) ≡ styleRows (now (line .entry)) (getD rowLists 4 []) (now (out .entry)) ⌝ }
+fn style_height(line: &mut [u8], first: usize, w: usize)
+    requires { ⌜ (length (now line) ≡ 81) × (1 ≤ first) × (first + w ≤ 81) ⌝ }
+    ensures { λ _. ⌜ now (line .exit) ≡ changed heightStyle first w (now (line .entry)) ⌝ }
 {
-    style_part(
-        line,
-        Item::Station,
-        Occupation::STATION,
-        Occupation::STATION_WIDTH,
-        out,
-    );
-    style_part(
-        line,
-        Item::Equipment,
-        Occupation::INSTRUMENT,
-        Occupation::INSTRUMENT_WIDTH,
-        out,
-    );
-    style_part(
-        line,
-        Item::Equipment,
-        Occupation::ANTENNA,
-        Occupation::ANTENNA_WIDTH,
-        out,
-    );
+    let at = first - 1;
+    let end = at + w;
+    if height_stands(&line[at..end]) {
+        return;
+    }
+    write_height(&mut line[at..end]);
 }
 
-fn style_measurement(line: &[u8], out: &mut [u8])
-    requires { ⌜ Copied 6 (now line) (now out) ⌝ }
-    ensures { λ _. ⌜ now (out .exit) ≡ styleRows (now (line .entry)) (getD rowLists 6 []) (now (out .entry)) ⌝ }
+fn style_angle(line: &mut [u8], first: usize, w: usize, way: Way)
+    requires { ⌜ (length (now line) ≡ 81) × (1 ≤ first) × (first + w ≤ 81) ⌝ }
+    ensures { λ _. ⌜ now (line .exit) ≡ changed (angleStyle (wayOf way)) first w (now (line .entry)) ⌝ }
 {
-    style_part(
-        line,
-        Item::Station,
-        Measurement::STATION,
-        Measurement::STATION_WIDTH,
-        out,
-    );
-    style_part(
-        line,
-        Item::Date,
-        Measurement::DATE,
-        Measurement::DATE_WIDTH,
-        out,
-    );
-    style_part(
-        line,
-        Item::Time,
-        Measurement::TIME,
-        Measurement::TIME_WIDTH,
-        out,
-    );
-    style_part(
-        line,
-        Item::Rise,
-        Measurement::HEIGHT,
-        Measurement::HEIGHT_WIDTH,
-        out,
-    );
+    let at = first - 1;
+    let end = at + w;
+    if angle_stands(&line[at..end], way) {
+        return;
+    }
+    write_angle(&mut line[at..end], way);
 }
 
-fn style_instrument(line: &[u8], out: &mut [u8])
-    requires { ⌜ Copied 7 (now line) (now out) ⌝ }
-    ensures { λ _. ⌜ now (out .exit) ≡ styleRows (now (line .entry)) (getD rowLists 7 []) (now (out .entry)) ⌝ }
+fn style_occupation(line: &mut [u8])
+    requires { ⌜ length (now line) ≡ 81 ⌝ }
+    ensures { λ _. ⌜ now (line .exit) ≡ changeRows (getD rowLists 4 []) (now (line .entry)) ⌝ }
 {
-    style_part(
-        line,
-        Item::Equipment,
-        Instrument::INSTRUMENT,
-        Instrument::INSTRUMENT_WIDTH,
-        out,
-    );
-    style_part(
-        line,
-        Item::Equipment,
-        Instrument::EQUIPMENT,
-        Instrument::EQUIPMENT_WIDTH,
-        out,
-    );
+    style_number(line, Occupation::STATION, Occupation::STATION_WIDTH);
+    style_number(line, Occupation::INSTRUMENT, Occupation::INSTRUMENT_WIDTH);
+    style_number(line, Occupation::ANTENNA, Occupation::ANTENNA_WIDTH);
 }
 
-fn style_antenna(line: &[u8], out: &mut [u8])
-    requires { ⌜ Copied 8 (now line) (now out) ⌝ }
-    ensures { λ _. ⌜ now (out .exit) ≡ styleRows (now (line .entry)) (getD rowLists 8 []) (now (out .entry)) ⌝ }
+fn style_measurement(line: &mut [u8])
+    requires { ⌜ length (now line) ≡ 81 ⌝ }
+    ensures { λ _. ⌜ now (line .exit) ≡ changeRows (getD rowLists 6 []) (now (line .entry)) ⌝ }
 {
-    style_part(
-        line,
-        Item::Equipment,
-        Antenna::ANTENNA,
-        Antenna::ANTENNA_WIDTH,
-        out,
-    );
+    style_number(line, Measurement::STATION, Measurement::STATION_WIDTH);
+    style_number(line, Measurement::DATE, Measurement::DATE_WIDTH);
+    style_number(line, Measurement::TIME, Measurement::TIME_WIDTH);
+    style_height(line, Measurement::HEIGHT, Measurement::HEIGHT_WIDTH);
 }
 
-fn style_point(line: &[u8], out: &mut [u8])
-    requires { ⌜ Copied 9 (now line) (now out) ⌝ }
-    ensures { λ _. ⌜ now (out .exit) ≡ styleRows (now (line .entry)) (getD rowLists 9 []) (now (out .entry)) ⌝ }
+fn style_instrument(line: &mut [u8])
+    requires { ⌜ length (now line) ≡ 81 ⌝ }
+    ensures { λ _. ⌜ now (line .exit) ≡ changeRows (getD rowLists 7 []) (now (line .entry)) ⌝ }
 {
-    style_part(
-        line,
-        Item::Station,
-        Point::STATION,
-        Point::STATION_WIDTH,
-        out,
-    );
-    style_part(line, Item::Latitude, Point::LATITUDE, 12, out);
-    style_part(line, Item::Longitude, Point::LONGITUDE, 13, out);
+    style_number(line, Instrument::INSTRUMENT, Instrument::INSTRUMENT_WIDTH);
+    style_number(line, Instrument::EQUIPMENT, Instrument::EQUIPMENT_WIDTH);
 }
 
-fn style_heights(line: &[u8], out: &mut [u8])
-    requires { ⌜ Copied 10 (now line) (now out) ⌝ }
-    ensures { λ _. ⌜ now (out .exit) ≡ styleRows (now (line .entry)) (getD rowLists 10 []) (now (out .entry)) ⌝ }
+fn style_antenna(line: &mut [u8])
+    requires { ⌜ length (now line) ≡ 81 ⌝ }
+    ensures { λ _. ⌜ now (line .exit) ≡ changeRows (getD rowLists 8 []) (now (line .entry)) ⌝ }
 {
-    style_part(
-        line,
-        Item::Station,
-        Heights::STATION,
-        Heights::STATION_WIDTH,
-        out,
-    );
-    style_part(
-        line,
-        Item::Metres,
-        Heights::ORTHOMETRIC,
-        Heights::ORTHOMETRIC_WIDTH,
-        out,
-    );
-    style_part(
-        line,
-        Item::Metres,
-        Heights::GEOID,
-        Heights::GEOID_WIDTH,
-        out,
-    );
-    style_part(
-        line,
-        Item::Metres,
-        Heights::ELLIPSOID,
-        Heights::ELLIPSOID_WIDTH,
-        out,
-    );
+    style_number(line, Antenna::ANTENNA, Antenna::ANTENNA_WIDTH);
 }
 
-// Columns 11-80 of a line that was copied: only numbers, heights and angles can change.
-fn style_fields(line: &[u8], kind: usize, out: &mut [u8])
-    requires { ⌜ (kind < 14) × Copied kind (now line) (now out) ⌝ }
-    ensures { λ _. ⌜ now (out .exit) ≡ styleRows (now (line .entry)) (getD rowLists kind []) (now (out .entry)) ⌝ }
+fn style_point(line: &mut [u8])
+    requires { ⌜ length (now line) ≡ 81 ⌝ }
+    ensures { λ _. ⌜ now (line .exit) ≡ changeRows (getD rowLists 9 []) (now (line .entry)) ⌝ }
+{
+    style_number(line, Point::STATION, Point::STATION_WIDTH);
+    style_angle(line, Point::LATITUDE, 12, Way::Latitude);
+    style_angle(line, Point::LONGITUDE, 13, Way::Longitude);
+}
+
+fn style_heights(line: &mut [u8])
+    requires { ⌜ length (now line) ≡ 81 ⌝ }
+    ensures { λ _. ⌜ now (line .exit) ≡ changeRows (getD rowLists 10 []) (now (line .entry)) ⌝ }
+{
+    style_number(line, Heights::STATION, Heights::STATION_WIDTH);
+    style_height(line, Heights::ORTHOMETRIC, Heights::ORTHOMETRIC_WIDTH);
+    style_height(line, Heights::GEOID, Heights::GEOID_WIDTH);
+    style_height(line, Heights::ELLIPSOID, Heights::ELLIPSOID_WIDTH);
+}
+
+// Columns 11-80. The other kinds have nothing that could be in another style.
+fn style_fields(line: &mut [u8], kind: usize)
+    requires { ⌜ (length (now line) ≡ 81) × (kind < 14) ⌝ }
+    ensures { λ _. ⌜ now (line .exit) ≡ changeRows (getD rowLists kind []) (now (line .entry)) ⌝ }
 {
     match kind {
-        4 => style_occupation(line, out),
-        6 => style_measurement(line, out),
-        7 => style_instrument(line, out),
-        8 => style_antenna(line, out),
-        9 => style_point(line, out),
-        10 => style_heights(line, out),
+        4 => style_occupation(line),
+        6 => style_measurement(line),
+        7 => style_instrument(line),
+        8 => style_antenna(line),
+        9 => style_point(line),
+        10 => style_heights(line),
         _ => {}
     }
 }
@@ -339,6 +231,6 @@ pub fn restyle(line: &[u8], kind: usize, number: u32, out: &mut [u8])
 {
     put_text(out, line);
     lay_number(out, Sequence::NUMBER, Sequence::NUMBER_WIDTH, number);
-    style_fields(line, kind, out);
+    style_fields(out, kind);
     lay_one(out, 81, 10);
 }

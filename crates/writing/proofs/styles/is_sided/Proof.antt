@@ -1,10 +1,10 @@
 use borrow.Author.Needs.{needs}
-use Rattle.writing.specs.Styling.{valueIn, sided}
+use Rattle.writing.specs.Styling.{sided}
 use Rattle.writing.proofs.styles.is_sided.Statement.{statement}
 use Rattle.writing.proofs.styles.is_sided.Tie as tie
 
 returns : tie.Need-returns
-unfolding sided valueIn
+unfolding sided
 returns c = rw (c .value-of .ensures)
 
 pub is-sided-spec : {M : Type 1} → statement M

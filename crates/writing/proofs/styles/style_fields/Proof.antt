@@ -3,24 +3,6 @@ use Rattle.writing.proofs.StyleLaws.{rest-stays}
 use Rattle.writing.proofs.styles.style_fields.Statement.{statement}
 use Rattle.writing.proofs.styles.style_fields.Tie as tie
 
-occupation-requires : tie.Need-style-occupation-requires
-occupation-requires c κs = rw (c .before .match .keys1) at (c .before .before .before .before .pre .1)
-
-measurement-requires : tie.Need-style-measurement-requires
-measurement-requires c κs = rw (c .before .match .keys2) at (c .before .before .before .before .pre .1)
-
-instrument-requires : tie.Need-style-instrument-requires
-instrument-requires c κs = rw (c .before .match .keys3) at (c .before .before .before .before .pre .1)
-
-antenna-requires : tie.Need-style-antenna-requires
-antenna-requires c κs = rw (c .before .match .keys4) at (c .before .before .before .before .pre .1)
-
-point-requires : tie.Need-style-point-requires
-point-requires c κs = rw (c .before .match .keys5) at (c .before .before .before .before .pre .1)
-
-heights-requires : tie.Need-style-heights-requires
-heights-requires c κs = rw (c .before .match .keys6) at (c .before .before .before .before .pre .1)
-
 returns : tie.Need-returns
 returns c = rw (c .before .before .before .before .match .keys1) (c .before .before .style-occupation .ensures)
 
@@ -43,4 +25,4 @@ returns-7 : tie.Need-returns-7
 returns-7 c = search (rest-stays, needs)
 
 pub style-fields-spec : {M : Type 1} → statement M
-style-fields-spec = tie.close (tie.spec occupation-requires measurement-requires instrument-requires antenna-requires point-requires heights-requires (λ c. search needs) returns (λ c. search needs) returns-2 (λ c. search needs) returns-3 (λ c. search needs) returns-4 (λ c. search needs) returns-5 (λ c. search needs) returns-6 returns-7)
+style-fields-spec = tie.close (tie.spec (λ c κs. search needs) (λ c κs. search needs) (λ c κs. search needs) (λ c κs. search needs) (λ c κs. search needs) (λ c κs. search needs) (λ c. search needs) returns (λ c. search needs) returns-2 (λ c. search needs) returns-3 (λ c. search needs) returns-4 (λ c. search needs) returns-5 (λ c. search needs) returns-6 returns-7)

@@ -1,25 +1,22 @@
-use mathlib.Core.Path.{_∙_}
 use borrow.Author.Needs.{needs}
-use Rattle.writing.specs.Styling.{heightStyle}
-use Rattle.writing.proofs.StyleLaws.{height-stays, negative-height}
+use Rattle.writing.specs.Styling.{heightStands, heightAnew}
+use Rattle.writing.proofs.StandLaws.{height-same}
+use Rattle.writing.proofs.StyleLaws.{part-left, part-anew}
 use Rattle.writing.proofs.styles.style_height.Statement.{statement}
 use Rattle.writing.proofs.styles.style_height.Tie as tie
 
 returns : tie.Need-returns
 returns c =
-    let a = c .before .before .before .before .before .before .before .before .args in
-    let h = c .before .before .before .before .before .before .before .before .pre in
-    c .before .before .put-text .ensures ∙ height-stays (a .part .now) (a .out .now) (h .0) (h .1) (h .2) (c .before .before .before .before .before .is-settled .ensures) (c .before .before .before .before .if1 .taken)
+    let s = c .before .before .before .before .before in
+    let a = s .args in
+    part-left (a .line .now) (a .first) (a .w) (s .pre .0) (s .pre .1) (s .pre .2) heightStands heightAnew (c .before .height-stands .ensures) (c .if1 .taken)
 
 returns-2 : tie.Need-returns-2
 returns-2 c =
-    let a = c .before .before .before .before .before .before .before .before .before .before .args in
-    let h = c .before .before .before .before .before .before .before .before .before .before .pre in
-    c .before .before .put-text2 .ensures ∙ negative-height (a .part .now) (a .out .now) (h .0) (h .1) (h .2) (c .before .before .before .before .before .is-negative .ensures) (c .before .before .before .before .if2 .taken)
-
-returns-3 : tie.Need-returns-3
-unfolding heightStyle
-returns-3 c = c .before .before .put-height .ensures ∙ rw (c .before .before .before .read-height .ensures)
+    let b = c .before .before .before .before in
+    let s = b .before .before .before .before .before in
+    let a = s .args in
+    part-anew (a .line .now) (a .first) (a .w) (s .pre .0) (s .pre .1) (s .pre .2) heightStands heightAnew (b .before .height-stands .ensures) height-same (b .if1 .left) (c .before .before .write-height .ensures)
 
 pub style-height-spec : {M : Type 1} → statement M
-style-height-spec = tie.close (tie.spec (λ c κs. search needs) (λ c κs. search needs) (λ c. search needs) returns (λ c κs. search needs) (λ c κs. search needs) (λ c. search needs) returns-2 (λ c κs. search needs) (λ c κs. search needs) (λ c. search needs) returns-3)
+style-height-spec = tie.close (tie.spec (λ c. search needs) (λ c. search needs) (λ c. search needs) (λ c. search needs) (λ c. search needs) (λ c κs. search needs) (λ c. search needs) returns (λ c. search needs) (λ c. search needs) (λ c. search needs) (λ c κs. search needs) (λ c. search needs) returns-2)

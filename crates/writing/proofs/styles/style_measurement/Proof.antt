@@ -1,29 +1,12 @@
-use mathlib.Core.Path.{ap, _∙_}
 use borrow.Author.Needs.{needs}
-use lib.Dec.{lit≤}
-use lib.ListN.{length}
 use Rattle.kinds.specs.Tables.{fieldOf}
-use Rattle.rules.specs.Fields.{columnsOf}
-use Rattle.writing.specs.Styling.{styleRow}
-use Rattle.writing.proofs.StyleLaws.{kind-only, asked, row-length}
+use Rattle.writing.specs.Styling.{changeField, changeRows}
 use Rattle.writing.proofs.styles.style_measurement.Statement.{statement}
 use Rattle.writing.proofs.styles.style_measurement.Tie as tie
 
-requires : tie.Need-style-part-requires
-requires c κs = let v = c .before .before .before .pre in asked 6 (lit≤ tt) v 0 (lit≤ tt) _ (v .wide)
-
-requires-2 : tie.Need-style-part-requires-2
-requires-2 c κs = let v = c .before .before .before .before .before .before .before .pre in asked 6 (lit≤ tt) v 1 (lit≤ tt) _ (ap length (c .before .before .before .style-part .ensures) ∙ row-length _ _ _ ∙ v .wide)
-
-requires-3 : tie.Need-style-part-requires-3
-requires-3 c κs = let v = c .before .before .before .before .before .before .before .before .before .before .before .pre in asked 6 (lit≤ tt) v 2 (lit≤ tt) _ (ap length (c .before .before .before .style-part2 .ensures) ∙ row-length _ _ _ ∙ ap length (c .before .before .before .before .before .before .before .style-part .ensures) ∙ row-length _ _ _ ∙ v .wide)
-
-requires-4 : tie.Need-style-part-requires-4
-requires-4 c κs = let v = c .before .before .before .before .before .before .before .before .before .before .before .before .before .before .before .pre in asked 6 (lit≤ tt) v 4 (lit≤ tt) _ (ap length (c .before .before .before .style-part3 .ensures) ∙ row-length _ _ _ ∙ ap length (c .before .before .before .before .before .before .before .style-part2 .ensures) ∙ row-length _ _ _ ∙ ap length (c .before .before .before .before .before .before .before .before .before .before .before .style-part .ensures) ∙ row-length _ _ _ ∙ v .wide)
-
 returns : tie.Need-returns
-unfolding styleRow fieldOf columnsOf
-returns c = rw (c .before .before .style-part4 .ensures, c .before .before .before .before .before .before .style-part3 .ensures, c .before .before .before .before .before .before .before .before .before .before .style-part2 .ensures, c .before .before .before .before .before .before .before .before .before .before .before .before .before .before .style-part .ensures) (kind-only 6 (lit≤ tt) (c .before .before .before .before .before .before .before .before .before .before .before .before .before .before .before .before .before .before .pre))
+unfolding changeRows changeField fieldOf
+returns c = rw (c .before .before .style-height .ensures, c .before .before .before .before .before .before .style-number3 .ensures, c .before .before .before .before .before .before .before .before .before .before .style-number2 .ensures, c .before .before .before .before .before .before .before .before .before .before .before .before .before .before .style-number .ensures)
 
 pub style-measurement-spec : {M : Type 1} → statement M
-style-measurement-spec = tie.close (tie.spec requires requires-2 requires-3 requires-4 (λ c. search needs) returns)
+style-measurement-spec = tie.close (tie.spec (λ c κs. search needs) (λ c κs. search needs) (λ c κs. search needs) (λ c κs. search needs) (λ c. search needs) returns)

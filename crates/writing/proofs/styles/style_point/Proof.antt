@@ -1,26 +1,14 @@
-use mathlib.Core.Path.{ap, _∙_}
 use borrow.Author.Needs.{needs}
-use lib.Dec.{lit≤}
-use lib.ListN.{length}
+use Rattle.rules.specs.Items.{columns}
+use Rattle.columns.specs.Types.{wayOf}
 use Rattle.kinds.specs.Tables.{fieldOf}
-use Rattle.rules.specs.Fields.{columnsOf}
-use Rattle.writing.specs.Styling.{styleRow}
-use Rattle.writing.proofs.StyleLaws.{kind-only, asked, row-length}
+use Rattle.writing.specs.Styling.{changeField, changeRows}
 use Rattle.writing.proofs.styles.style_point.Statement.{statement}
 use Rattle.writing.proofs.styles.style_point.Tie as tie
 
-requires : tie.Need-style-part-requires
-requires c κs = let v = c .before .before .before .pre in asked 9 (lit≤ tt) v 0 (lit≤ tt) _ (v .wide)
-
-requires-2 : tie.Need-style-part-requires-2
-requires-2 c κs = let v = c .before .before .before .before .before .before .before .pre in asked 9 (lit≤ tt) v 2 (lit≤ tt) _ (ap length (c .before .before .before .style-part .ensures) ∙ row-length _ _ _ ∙ v .wide)
-
-requires-3 : tie.Need-style-part-requires-3
-requires-3 c κs = let v = c .before .before .before .before .before .before .before .before .before .before .before .pre in asked 9 (lit≤ tt) v 3 (lit≤ tt) _ (ap length (c .before .before .before .style-part2 .ensures) ∙ row-length _ _ _ ∙ ap length (c .before .before .before .before .before .before .before .style-part .ensures) ∙ row-length _ _ _ ∙ v .wide)
-
 returns : tie.Need-returns
-unfolding styleRow fieldOf columnsOf
-returns c = rw (c .before .before .style-part3 .ensures, c .before .before .before .before .before .before .style-part2 .ensures, c .before .before .before .before .before .before .before .before .before .before .style-part .ensures) (kind-only 9 (lit≤ tt) (c .before .before .before .before .before .before .before .before .before .before .before .before .before .before .pre))
+unfolding changeRows changeField fieldOf columns wayOf
+returns c = rw (c .before .before .style-angle2 .ensures, c .before .before .before .before .before .before .style-angle .ensures, c .before .before .before .before .before .before .before .before .before .before .style-number .ensures)
 
 pub style-point-spec : {M : Type 1} → statement M
-style-point-spec = tie.close (tie.spec requires requires-2 requires-3 (λ c. search needs) returns)
+style-point-spec = tie.close (tie.spec (λ c κs. search needs) (λ c κs. search needs) (λ c κs. search needs) (λ c. search needs) returns)

@@ -1,0 +1,15 @@
+use borrow.Author.Needs.{needs}
+use Rattle.writing.specs.Styling.{angleStands}
+use Rattle.writing.proofs.styles.angle_stands.Statement.{statement}
+use Rattle.writing.proofs.styles.angle_stands.Tie as tie
+
+returns : tie.Need-returns
+unfolding angleStands
+returns c = rw (← c .before .is-plus .ensures, c .if1 .taken)
+
+returns-2 : tie.Need-returns-2
+unfolding angleStands
+returns-2 c = rw (← c .before .before .is-plus .ensures, c .before .if1 .left, c .has-side .ensures)
+
+pub angle-stands-spec : {M : Type 1} → statement M
+angle-stands-spec = tie.close (tie.spec (λ c κs. search needs) returns (λ c κs. search needs) returns-2)
