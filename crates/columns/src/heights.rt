@@ -26,7 +26,7 @@ pub fn good_height(part: &[u8], may: bool) -> bool
 }
 
 // The first column that is no blank is a minus.
-fn has_minus(part: &[u8]) -> bool
+pub fn has_minus(part: &[u8]) -> bool
     ensures { λ r. ⌜ r ≡ minus (now (part .entry)) ⌝ }
 {
     let n = part.len();

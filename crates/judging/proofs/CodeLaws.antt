@@ -1,19 +1,19 @@
 -- The kind of a code: one law for each way through the functions.
-use mathlib.Core.Path.{_≡_, refl, sym, _∙_, ap, ap₂, subst}
+use mathlib.Core.Path.{_≡_, refl, sym, _∙_, ap, ap₂}
 use mathlib.Core.Bool.{Bool, true, false, cond, _&&_, _||_}
 use mathlib.Core.List.{List, [], _∷_}
-use Prim.Native.Nat.{ℕ, zero, suc, _+_, _-_, _*_, _≤_, _<_, min}
+use Prim.Native.Nat.{ℕ, _+_, _-_, _*_, _≤_, _<_, min}
 use native.Mathlib.Nat.{min-le-right}
 use native.Mathlib.Omega.{arith}
 use lib.Dec.{leb}
-use lib.ListN.{length, take, drop, getD, length-take, length-drop}
+use lib.ListN.{length, drop, getD, length-take, length-drop}
 use lib.Seq.{getD-take, getD-drop, length-take-le}
-use Rattle.rules.specs.Tests.{within, _&_, _≤?_, _=?_}
+use Rattle.rules.specs.Tests.{within, _&_, _≤?_}
 use Rattle.rules.specs.Characters.{isDigit, isLetter, letter, digit, _or_, member}
 use Rattle.rules.specs.Digits.{val}
 use Rattle.rules.specs.Kinds.{dataCodes, kindFrom, starred, kindBetween, kindOf}
 use Rattle.rules.specs.Records.{codeAt}
-use Rattle.rules.proofs.Truth.{both, and, to-within, to≡, of≡, of≢, no≡, cases, is-no, not-both, or-cond}
+use Rattle.rules.proofs.Truth.{both, and, to-within, to≡, of≡, of≢, is-no, or-cond}
 
 pub and-is : (x y : Bool) → (x && y) ≡ x & y
 unfolding _&_
@@ -38,63 +38,11 @@ pub digits : (a b : ℕ) → isDigit a & isDigit b ≡ true → (48 ≤ a) × (a
 unfolding isDigit
 digits a b h = let x = to-within (both h .0) in let y = to-within (both h .1) in (x .0, x .1, y .0, y .1)
 
--- the number of a code
-module _ (n : ℕ) where
-  pub code-10 : n ≡ 10 → 1 ≡ kindFrom 1 n dataCodes
-  unfolding kindFrom dataCodes _=?_
-  code-10 e = rw e
-
-  pub code-11 : n ≡ 11 → 2 ≡ kindFrom 1 n dataCodes
-  unfolding kindFrom dataCodes _=?_
-  code-11 e = rw e
-
-  pub code-12 : n ≡ 12 → 3 ≡ kindFrom 1 n dataCodes
-  unfolding kindFrom dataCodes _=?_
-  code-12 e = rw e
-
-  pub code-25 : n ≡ 25 → 4 ≡ kindFrom 1 n dataCodes
-  unfolding kindFrom dataCodes _=?_
-  code-25 e = rw e
-
-  pub code-26 : n ≡ 26 → 5 ≡ kindFrom 1 n dataCodes
-  unfolding kindFrom dataCodes _=?_
-  code-26 e = rw e
-
-  pub code-27 : n ≡ 27 → 6 ≡ kindFrom 1 n dataCodes
-  unfolding kindFrom dataCodes _=?_
-  code-27 e = rw e
-
-  pub code-70 : n ≡ 70 → 7 ≡ kindFrom 1 n dataCodes
-  unfolding kindFrom dataCodes _=?_
-  code-70 e = rw e
-
-  pub code-72 : n ≡ 72 → 8 ≡ kindFrom 1 n dataCodes
-  unfolding kindFrom dataCodes _=?_
-  code-72 e = rw e
-
-  pub code-80 : n ≡ 80 → 9 ≡ kindFrom 1 n dataCodes
-  unfolding kindFrom dataCodes _=?_
-  code-80 e = rw e
-
-  pub code-86 : n ≡ 86 → 10 ≡ kindFrom 1 n dataCodes
-  unfolding kindFrom dataCodes _=?_
-  code-86 e = rw e
-
-  pub code-91 : n ≡ 91 → 11 ≡ kindFrom 1 n dataCodes
-  unfolding kindFrom dataCodes _=?_
-  code-91 e = rw e
-
-  pub code-92 : n ≡ 92 → 12 ≡ kindFrom 1 n dataCodes
-  unfolding kindFrom dataCodes _=?_
-  code-92 e = rw e
-
-  pub code-93 : n ≡ 93 → 13 ≡ kindFrom 1 n dataCodes
-  unfolding kindFrom dataCodes _=?_
-  code-93 e = rw e
-
-  pub no-code : (n ≡ 10 → ⊥) → (n ≡ 11 → ⊥) → (n ≡ 12 → ⊥) → (n ≡ 25 → ⊥) → (n ≡ 26 → ⊥) → (n ≡ 27 → ⊥) → (n ≡ 70 → ⊥) → (n ≡ 72 → ⊥) → (n ≡ 80 → ⊥) → (n ≡ 86 → ⊥) → (n ≡ 91 → ⊥) → (n ≡ 92 → ⊥) → (n ≡ 93 → ⊥) → 14 ≡ kindFrom 1 n dataCodes
-  unfolding kindFrom dataCodes
-  no-code a b c d e f g h i j k l m = rw (of≢ a, of≢ b, of≢ c, of≢ d, of≢ e, of≢ f, of≢ g, of≢ h, of≢ i, of≢ j, of≢ k, of≢ l, of≢ m)
+-- the number of no code
+pub no-code : (n : ℕ) → (n ≡ 10 → ⊥) → (n ≡ 11 → ⊥) → (n ≡ 12 → ⊥) → (n ≡ 25 → ⊥) → (n ≡ 26 → ⊥) → (n ≡ 27 → ⊥) → (n ≡ 70 → ⊥) → (n ≡ 72 → ⊥) → (n ≡ 80 → ⊥) → (n ≡ 86 → ⊥) → (n ≡ 91 → ⊥) → (n ≡ 92 → ⊥) → (n ≡ 93 → ⊥)
+    → 14 ≡ kindFrom 1 n dataCodes
+unfolding kindFrom dataCodes
+no-code n a b c d e f g h i j k l m = rw (of≢ a, of≢ b, of≢ c, of≢ d, of≢ e, of≢ f, of≢ g, of≢ h, of≢ i, of≢ j, of≢ k, of≢ l, of≢ m)
 
 pub data-kind : (a b : ℕ) → isDigit a & isDigit b ≡ true → (x : ℕ) → x ≡ a - 48 → (y : ℕ) → y ≡ b - 48 → (k : ℕ) → k ≡ kindFrom 1 (x * 10 + y) dataCodes
     → k ≡ kindFrom 1 (val 0 (a ∷ b ∷ [])) dataCodes

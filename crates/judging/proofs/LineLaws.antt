@@ -68,11 +68,11 @@ module _ (l : List ℕ) where
   unfolding readLine
   alone-bytes j p n c q = sym (bad-then (bytes 80 1 l) _ n c (sym p ∙ q))
 
-  pub alone-fine : (j : Judged) → j ≡ judgedOf (bytes 80 1 l) → j ≡ Judged.Good → isOk (bytes 80 1 l) ≡ true
-  alone-fine j p q = ap isOk (good-is (bytes 80 1 l) (sym p ∙ q)) ∙ (unfold isOk in refl)
+  pub bytes-fine : (j : Judged) → j ≡ judgedOf (bytes 80 1 l) → j ≡ Judged.Good → isOk (bytes 80 1 l) ≡ true
+  bytes-fine j p q = ap isOk (good-is (bytes 80 1 l) (sym p ∙ q)) ∙ (unfold isOk in refl)
 
   pub alone-long : (j : Judged) → j ≡ judgedOf (bytes 80 1 l) → j ≡ Judged.Good → 80 < length l
-  alone-long j p q = bytes-length 1 80 l (ap isOk (good-is (bytes 80 1 l) (sym p ∙ q)) ∙ (unfold isOk in refl))
+  alone-long j p q = bytes-length 1 80 l (bytes-fine j p q)
 
   module _ (j : Judged) (p : j ≡ judgedOf (bytes 80 1 l)) (q : j ≡ Judged.Good) (k : ℕ) (z : k ≡ kindOf (codeAt l)) where
     pub alone-code : 13 < k → Judged.Bad 6 7 ≡ judgedOf (readLine chapter4 l)

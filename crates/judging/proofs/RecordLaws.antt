@@ -1,19 +1,20 @@
--- A record as a whole: rows that pass are rows without a fault.
-use mathlib.Core.Path.{_≡_, refl, sym, _∙_, ap, subst}
-use mathlib.Core.Bool.{Bool, true, false, _&&_, false≢true}
-use mathlib.Core.List.{List, [], _∷_, _++_, map}
-use Prim.Native.Nat.{ℕ, zero, suc, _+_, _-_, _≤_, _<_}
+-- A record as a whole: rows that pass are rows without a fault; a row of text passed with the bytes.
+use mathlib.Core.Path.{_≡_, refl, sym, _∙_, ap}
+use mathlib.Core.Bool.{Bool, true, _&&_, false≢true}
+use mathlib.Core.List.{List, [], _∷_, map}
+use Prim.Native.Nat.{ℕ, _-_, _≤_, _<_}
 use native.Mathlib.Omega.{arith}
 use lib.ListN.{length, getD, take, drop, length-drop}
 use lib.Seq.{take-add, length-take-le}
 use Rattle.rules.specs.Tests.{_&_, all}
 use Rattle.rules.specs.Characters.{isPrintable, printable, member}
-use Rattle.rules.specs.Items.{good, spot, word, each, width, shape, passes, valueOf, fits, onText}
+use Rattle.rules.specs.Items.{good, word, each, width, shape, passes, valueOf, fits, onText}
 use Rattle.rules.specs.Records.{bytes}
 use Rattle.rules.specs.Fields.{Expect, Verdict, ok, fault, check, _⨾_, isOk, read, judge}
 use Rattle.rules.specs.Layouts.{layouts, kept}
-use Rattle.rules.proofs.Truth.{both, and, of≡}
+use Rattle.rules.proofs.Truth.{both, and, of≡, all-parts}
 use Rattle.rules.proofs.FieldLaws.{isOk-⨾}
+use Rattle.rules.proofs.Conforming.{bytes-parts}
 use Rattle.kinds.specs.declared.tables.Item.{Item}
 use Rattle.kinds.specs.declared.tables.Item.the-variants as I
 use Rattle.kinds.specs.declared.tables.Bond.{Bond}
@@ -21,8 +22,8 @@ use Rattle.kinds.specs.declared.tables.Bond.the-variants as B
 use Rattle.columns.specs.Types.{setOf}
 use Rattle.kinds.specs.declared.Judged.{Judged}
 use Rattle.kinds.specs.Values.{judgedOf}
-use Rattle.kinds.specs.Tables.{itemOf, Row, rowLists}
-use Rattle.judging.specs.Judging.{part, agreesIn, sized, judgeRow, judgeRows, tied, passFrom}
+use Rattle.kinds.specs.Tables.{itemOf, Row, row, rowLists}
+use Rattle.judging.specs.Judging.{part, agreesIn, judgeRow, judgeRows, tied, passFrom}
 use Rattle.judging.proofs.CodeLaws.{and-is}
 use Rattle.judging.proofs.RowLaws.{rows-judge}
 
@@ -61,25 +62,7 @@ unfolding judgedOf isOk
 good-judged ok t f e = refl
 good-judged (fault n c) t f e = absurd (false≢true (f e))
 
--- ---- a kind that is all text: its columns were judged with the bytes
-check-ok : (t : Bool) (n c : ℕ) → isOk (check t n c) ≡ t
-unfolding check isOk
-check-ok true n c = refl
-check-ok false n c = refl
-
-bytes-printable : (n c : ℕ) (l : List ℕ) → isOk (bytes n c l) ≡ true → all isPrintable (take n l) ≡ true
-unfolding bytes all
-bytes-printable zero c l h = refl
-bytes-printable (suc n) c [] h = refl
-bytes-printable (suc n) c (b ∷ bs) h =
-    let t = both (sym (isOk-⨾ (check (isPrintable b) 4 c) (bytes n (c + 1) bs)) ∙ h) in
-    and (sym (check-ok (isPrintable b) 4 c) ∙ t .0) (bytes-printable n (c + 1) bs (t .1))
-
-all-behind : (p : ℕ → Bool) (xs ys : List ℕ) → all p (xs ++ ys) ≡ true → all p ys ≡ true
-unfolding all
-all-behind p [] ys h = h
-all-behind p (x ∷ xs) ys h = all-behind p xs ys (both h .1)
-
+-- ---- a kind that is all text: its columns passed with the bytes
 members : (bs : List ℕ) → all (member printable) bs ≡ all isPrintable bs
 unfolding all member
 members [] = refl
@@ -89,10 +72,11 @@ text-good : (l : List ℕ) → 80 ≤ length l → isOk (bytes 80 1 l) ≡ true 
 unfolding good width shape passes valueOf fits onText
 text-good l h k =
     let few : length (take 70 (drop 10 l)) ≡ 70 = length-take-le 70 (drop 10 l) (rw length-drop (omega arith)) in
-    let m : all isPrintable (take 70 (drop 10 l)) ≡ true = all-behind isPrintable (take 10 l) (take 70 (drop 10 l)) (rw (take-add 10 70 l) at (bytes-printable 80 1 l k)) in
+    let m : all isPrintable (take 70 (drop 10 l)) ≡ true = all-parts isPrintable (take 10 l) (take 70 (drop 10 l)) (rw (take-add 10 70 l) at (bytes-parts 80 1 l k .0)) .1 in
     let t : all (member printable) (take 70 (drop 10 l)) ≡ true = members (take 70 (drop 10 l)) ∙ m in
     and (and (of≡ few) t) (and (of≡ few) t)
 
-pub text-passes : (e : Expect) (l : List ℕ) (r : Row) → r .item ≡ I.Printable → r .bond ≡ B.Free → r .first ≡ 11 → r .width ≡ 70 → 80 ≤ length l → isOk (bytes 80 1 l) ≡ true → true ≡ passFrom true e l (r ∷ [])
+pub text-kind : (e : Expect) (l : List ℕ) (kind j : ℕ) → kind < 14 → kind ≡ j → getD rowLists j [] ≡ row I.Printable 11 70 ∷ [] → 80 ≤ length l → isOk (bytes 80 1 l) ≡ true
+    → true ≡ true → isOk (judge e (map (read l) (getD layouts kind kept))) ≡ true
 unfolding passFrom tied setOf
-text-passes e l r a b c d h k = sym (rw (a, b, c, d) (text-good l h k))
+text-kind e l kind j h z t long fine = kind-good e l kind j h z true (sym (ap (passFrom true e l) t ∙ text-good l long fine))

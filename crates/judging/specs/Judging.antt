@@ -8,7 +8,6 @@ use Rattle.rules.specs.Characters.{isBlank, isPrintable}
 use Rattle.rules.specs.Digits.{val}
 use Rattle.rules.specs.Items.{Item, blank, constant, number, height, angle, month, media, word, good, spot}
 use Rattle.rules.specs.Fields.{Expect, Verdict, ok, check, _⨾_, sameTruth, meets}
-use Rattle.rules.specs.Kinds.{dataCodes, kindFrom}
 use Rattle.kinds.specs.declared.tables.Item as code
 use Rattle.kinds.specs.declared.tables.Bond.{Bond}
 use Rattle.kinds.specs.declared.tables.Bond.the-variants as B

@@ -162,9 +162,6 @@ module _ (p : List ℕ) (h : length p ≤ 8) (k : Count) (z : k ≡ cond (length
 
 -- columns that are all there, and columns of which some may not be
 module _ (l : List ℕ) (c w : ℕ) where
-  pub there-few : w ≤ 8 → length (take (c - 1 + w - (c - 1)) (drop (c - 1) l)) ≤ 8
-  there-few h = let m : length (take w (drop (c - 1) l)) ≤ w = length-take-most w (drop (c - 1) l) in rw (add-sub-cancel-left (c - 1) w) (omega (arith, m))
-
   pub number-there : (r : ℕ) → r ≡ natOf (valueOf (number 0 0 0 true) (take (c - 1 + w - (c - 1)) (drop (c - 1) l))) → r ≡ natIn c w l
   unfolding natIn
   number-there r q = q ∙ rw (add-sub-cancel-left (c - 1) w)

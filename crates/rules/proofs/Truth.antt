@@ -97,6 +97,11 @@ module _ {A : Type 0} where
   all-append p [] ys h k = k
   all-append p (x ∷ xs) ys h k = and (both h .0) (all-append p xs ys (both h .1) k)
 
+  pub all-parts : (p : A → Bool) (xs ys : List A) → all p (xs ++ ys) ≡ true → (all p xs ≡ true) × (all p ys ≡ true)
+  unfolding all
+  all-parts p [] ys h = (refl, h)
+  all-parts p (x ∷ xs) ys h = let t = all-parts p xs ys (both h .1) in (and (both h .0) (t .0), t .1)
+
   pub all-weaken : (p q : A → Bool) → ((x : A) → p x ≡ true → q x ≡ true) → (xs : List A) → all p xs ≡ true → all q xs ≡ true
   unfolding all
   all-weaken p q f [] h = refl

@@ -19,6 +19,7 @@ use Rattle.kinds.specs.declared.Expect.{Expect}
 use Rattle.kinds.specs.Values.{judgedOf, expectOf}
 use Rattle.kinds.proofs.ValueLaws.{good-is, bad-is}
 use Rattle.judging.proofs.RowLaws.{good-then, bad-then}
+use Rattle.judging.proofs.LineLaws.{bytes-fine}
 use Rattle.walk.specs.declared.kept.Kept.{Kept}
 use Rattle.walk.specs.declared.records.Stepped.{Stepped}
 use Rattle.walk.specs.declared.records.Stepped.the-variants.{Next, Fault}
@@ -42,10 +43,10 @@ module _ (s : Kept) (r : ℕ) (l : List ℕ) (k : ℕ) (e : k ≡ kindOf (codeAt
 
   module _ (h : r ≤ 99_999) (b : Judged) (p : b ≡ judgedOf (bytes 80 1 l)) (q : b ≡ Judged.Good) where
     pub placed-fine : isOk (bytes 80 1 l) ≡ true
-    placed-fine = ap isOk (good-is (bytes 80 1 l) (sym p ∙ q)) ∙ (unfold isOk in refl)
+    placed-fine = bytes-fine l b p q
 
     pub placed-long : 80 ≤ length l
-    placed-long = let t : 80 < length l = bytes-length 1 80 l (ap isOk (good-is (bytes 80 1 l) (sym p ∙ q)) ∙ (unfold isOk in refl)) in omega arith
+    placed-long = let t : 80 < length l = bytes-length 1 80 l placed-fine in omega arith
 
     -- after the bytes
     coded : check (r ≤? 99_999) 2 1 ⨾ judgeLine chapter4 (pastOf s) l

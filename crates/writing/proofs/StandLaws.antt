@@ -1,25 +1,23 @@
--- What stands in house style already: reading the value of such columns and writing it again gives the same columns. Assumes nothing.
+-- A good field in house style, in place: what stands already, and what becomes of a number, a height and an angle that does not, is what writing its value gives. Assumes nothing.
 use mathlib.Core.Path.{_≡_, refl, sym, ap, ap₂, _∙_}
 use mathlib.Core.Bool.{Bool, true, false, not, _&&_, false≢true}
 use mathlib.Core.List.{List, [], _∷_, _++_, map, append-nil, append-assoc}
-use Prim.Native.Nat.{ℕ, zero, suc, _+_, _-_, _*_, _/_, _%_, _≤_}
+use Prim.Native.Nat.{ℕ, zero, suc, _+_, _-_, _*_, _/_, _%_, _≤_, _<_}
 use native.Mathlib.Omega.{arith}
 use lib.Dec.{lit≤, eqb}
-use borrow.Author.Tests.{eq-eqb}
-use lib.ListN.{length, getD, take, drop, replicate, take-append-drop, length-drop, length-map, drop-of-length-le}
-use lib.Seq.{take-add, length-take-le, drop-cons, drop-drop}
+use lib.IntN.{pos}
+use borrow.Author.Tests.{eq-eqb, ne-eqb, eqb-true}
+use lib.ListN.{length, getD, set, take, drop, replicate, length-set, take-append-drop, length-drop, length-map, drop-of-length-le}
+use lib.Seq.{take-add, length-take-le, drop-cons, drop-drop, take-all, take-suc-set}
 use Rattle.rules.specs.Tests.{_&_, _≤?_, _=?_, within, all}
 use Rattle.rules.specs.Characters.{isDigit, isBlank}
 use Rattle.rules.specs.Digits.{val, put}
 use Rattle.rules.specs.Items.{num, Way, latitude, longitude, Item, blank, constant, number, height, angle, month, media, word, onGap, onNumber, onText, onLabel, columns, plus, minusOf, low, top, minus, numForm, heightForm, signed, angleValue, angleOf, dms, dmsForm, width, shape, valueOf, fits, render, good}
-use Rattle.rules.proofs.Truth.{both, and, to≤, of≤, to≡, of≡, of≢, no≤, to-within, cases}
-use Rattle.rules.proofs.Lawful.{lawful, good-fits, digits-not-blank, digits-no-minus}
+use Rattle.rules.proofs.Truth.{all-parts, both, and, to≤, of≤, of>, to≡, of≡, of≢, no≤, to-within, cases}
+use Rattle.rules.proofs.Lawful.{good-fits, digits-no-minus}
 use Rattle.rules.proofs.FileLaws.{length-take-most}
-use Rattle.columns.specs.Types.{heightOf, heightValue, intOf}
-use Rattle.columns.specs.Leaves.{written, heightColumns}
 use Rattle.columns.proofs.Loops.{suc-less-one}
-use Rattle.writing.specs.Styling.{styleOf, filled, settled, valueIn, heightStands, heightAnew, heightStyle, sided, angleStands, angleAnew, angleStyle}
-use Rattle.writing.proofs.LayLaws.{written-is, height-wide}
+use Rattle.writing.specs.Styling.{styleOf, filled, settled, valueIn, riseStands, metresStands, heightAnew, heightStyle, sided, angleStands, angleStyle}
 
 -- ---- digits as they stand
 digit-back : (a b : ℕ) → isDigit b ≡ true → ((a * 10 + (b - 48)) / 10 ≡ a) × (48 + (a * 10 + (b - 48)) % 10 ≡ b)
@@ -48,11 +46,6 @@ same-bytes : (p : ℕ → Bool) (k : ℕ) → ((b : ℕ) → p b ≡ true → b 
 unfolding all
 same-bytes p k f [] h = refl
 same-bytes p k f (b ∷ bs) h = rw (f b (both h .0)) (ap (λ l. k ∷ l) (same-bytes p k f bs (both h .1)))
-
-all-parts : (p : ℕ → Bool) (xs ys : List ℕ) → all p (xs ++ ys) ≡ true → (all p xs ≡ true) × (all p ys ≡ true)
-unfolding all
-all-parts p [] ys h = (refl, h)
-all-parts p (x ∷ xs) ys h = let t = all-parts p xs ys (both h .1) in (and (both h .0) (t .0), t .1)
 
 all-one : (b : ℕ) → all isDigit (b ∷ []) ≡ true → isDigit b ≡ true
 unfolding all
@@ -96,49 +89,74 @@ style-same month bs t h = put-val 6 bs (to≡ (both (both h .0) .0)) (both (both
 style-same media bs t h = unfold styleOf valueOf render onLabel in media-back bs (to≡ (both (both h .0) .0)) (both (both h .0) .1)
 style-same (word w q) bs t h = refl
 
--- ---- numbers: a blank counts as a zero does
+-- ---- what stands before the digits counts as a zero does
 filled-digit : (b : ℕ) → isDigit b ≡ true → filled b ≡ b
 unfolding filled isDigit
-filled-digit b h = let p = to-within h in cases (b =? 32) (λ e. absurd (omega (arith, to≡ e, p .0))) (λ e. rw e)
+filled-digit b h = let p = to-within h in rw (of≤ (p .0))
+
+filled-low : (b : ℕ) → b < 48 → isDigit (filled b) ≡ true
+unfolding filled
+filled-low b h = rw (of> h) (unfold isDigit within _&_ _≤?_ in refl)
 
 filled-val : (a : ℕ) (bs : List ℕ) → val a (map filled bs) ≡ val a bs
 unfolding val filled
 filled-val a [] = refl
-filled-val a (b ∷ bs) = cases (b =? 32) (λ e. rw (e, to≡ e) (filled-val (a * 10 + 0) bs)) (λ e. rw e (filled-val (a * 10 + (b - 48)) bs))
+filled-val a (b ∷ bs) =
+    cases (48 ≤? b)
+    (λ e. rw e (filled-val (a * 10 + (b - 48)) bs))
+    (λ e. let z : b - 48 ≡ 0 = omega (arith, no≤ e) in rw (e, z) (filled-val (a * 10 + 0) bs))
 
 digits-stay : (bs : List ℕ) → all isDigit bs ≡ true → map filled bs ≡ bs
 unfolding all
 digits-stay [] h = refl
 digits-stay (b ∷ bs) h = ap₂ _∷_ (filled-digit b (both h .0)) (digits-stay bs (both h .1))
 
-filled-blank : (b : ℕ) → isBlank b ≡ true → isDigit (filled b) ≡ true
-unfolding filled isBlank
-filled-blank b e = rw e (unfold isDigit within _&_ _≤?_ in refl)
-
 digits-on : (b : ℕ) (bs : List ℕ) → isDigit b ≡ true → all isDigit bs ≡ true → all isDigit (b ∷ bs) ≡ true
 unfolding all
 digits-on b bs h k = and h k
 
-filled-digits : (bs : List ℕ) → numForm bs ≡ true → all isDigit (map filled bs) ≡ true
-unfolding numForm
+digits-behind : (b : ℕ) (bs : List ℕ) → all isDigit (b ∷ bs) ≡ true → all isDigit bs ≡ true
+unfolding all
+digits-behind b bs h = both h .1
+
+digit-no-minus : (b : ℕ) (bs : List ℕ) → all isDigit (b ∷ bs) ≡ true → b =? 45 ≡ false
+unfolding all isDigit
+digit-no-minus b bs h = let p = to-within (both h .0) in of≢ (λ e. absurd (omega arith))
+
+blank-low : (b : ℕ) → isBlank b ≡ true → b < 48
+unfolding isBlank
+blank-low b h = let e : b ≡ 32 = to≡ h in omega arith
+
+filled-digits : (bs : List ℕ) → heightForm bs ≡ true → all isDigit (map filled bs) ≡ true
+unfolding heightForm
 filled-digits [] h = unfold all in refl
 filled-digits (b ∷ bs) h =
     cases (isBlank b)
-    (λ e. digits-on (filled b) (map filled bs) (filled-blank b e) (filled-digits bs (rw e at h)))
-    (λ e. let d : all isDigit (b ∷ bs) ≡ true = rw e at h in rw (digits-stay (b ∷ bs) d) d)
+    (λ e. digits-on (filled b) (map filled bs) (filled-low b (blank-low b e)) (filled-digits bs (rw e at h)))
+    (λ e.
+    cases (b =? 45)
+    (λ m.
+    let k : 1 ≤? length bs & all isDigit bs ≡ true = rw (e, m) at h in
+    digits-on (filled b) (map filled bs) (filled-low b (omega (arith, to≡ m))) (rw (digits-stay bs (both k .1)) (both k .1)))
+    (λ m. let d : all isDigit (b ∷ bs) ≡ true = rw (e, m) at h in rw (digits-stay (b ∷ bs) d) d))
 
-pub filled-back : (w lo hi : ℕ) (bs : List ℕ) → good (number w lo hi false) bs ≡ true → styleOf (number w lo hi false) bs ≡ map filled bs
+filled-put : (bs : List ℕ) → heightForm bs ≡ true → put (length bs) (val 0 bs) ≡ map filled bs
+filled-put bs h = ap (put (length bs)) (sym (filled-val 0 bs)) ∙ put-val (length bs) (map filled bs) (length-map bs filled) (filled-digits bs h)
+
+-- ---- numbers: a height without a minus
+number-form : (bs : List ℕ) → numForm bs ≡ true → heightForm bs ≡ true
+unfolding numForm heightForm
+number-form [] h = refl
+number-form (b ∷ bs) h = cases (isBlank b) (λ e. rw e (number-form bs (rw e at h))) (λ e. let d : all isDigit (b ∷ bs) ≡ true = rw e at h in rw (e, digit-no-minus b bs d) d)
+
+pub number-done : (w lo hi : ℕ) (bs : List ℕ) → good (number w lo hi false) bs ≡ true → map filled bs ≡ styleOf (number w lo hi false) bs
 unfolding good shape width fits styleOf valueOf render onNumber
-filled-back w lo hi bs h =
+number-done w lo hi bs h =
     cases (all isBlank bs)
     (λ e. absurd (false≢true (rw e at (both h .1))))
-    (λ e. rw e (ap (put w) (sym (filled-val 0 bs)) ∙ put-val w (map filled bs) (length-map bs filled ∙ to≡ (both (both h .0) .0)) (filled-digits bs (both (both h .0) .1))))
+    (λ e. rw (e, ← to≡ (both (both h .0) .0)) (sym (filled-put bs (number-form bs (both (both h .0) .1)))))
 
-style-is : (i : Item) (bs : List ℕ) → styleOf i bs ≡ render i (valueOf i bs)
-unfolding styleOf
-style-is i bs = refl
-
-pub good-long : (i : Item) (bs : List ℕ) → good i bs ≡ true → length bs ≡ width i
+good-long : (i : Item) (bs : List ℕ) → good i bs ≡ true → length bs ≡ width i
 unfolding good
 good-long i bs h = to≡ (both (both h .0) .0)
 
@@ -148,84 +166,123 @@ not-is m n h e = false≢true (ap not (sym (eq-eqb m n e)) ∙ h)
 value-is : (bs : List ℕ) → length bs ≤ 16 → valueIn bs ≡ val 0 bs
 value-is bs h = rw (of≤ h)
 
-below-zero : (v : ℕ) → (v ≡ 0 → ⊥) → (x : List ℕ) (f g : ℕ → List ℕ) → onNumber [] x f g (num (signed true v)) ≡ g v
-unfolding onNumber signed
-below-zero zero h x f g = absurd (h refl)
-below-zero (suc n) h x f g = refl
+two : (a b : Bool) → (a && b) ≡ true → (a ≡ true) × (b ≡ true)
+two true b h = (refl, h)
+two false b h = absurd (false≢true h)
+
+-- ---- the sign of a value
+module _ (x : List ℕ) (f g : ℕ → List ℕ) where
+  below-zero : (t : Bool) (v : ℕ) → t ≡ true → (v ≡ 0 → ⊥) → onNumber [] x f g (num (signed t v)) ≡ g v
+  unfolding onNumber signed
+  below-zero false v e h = absurd (false≢true e)
+  below-zero true zero e h = absurd (h refl)
+  below-zero true (suc n) e h = refl
+
+  from-zero : (t : Bool) (v : ℕ) → (t && not (eqb v 0)) ≡ false → onNumber [] x f g (num (signed t v)) ≡ f v
+  unfolding onNumber signed
+  from-zero false v h = refl
+  from-zero true zero h = refl
+  from-zero true (suc n) h = absurd (false≢true (sym h ∙ ap not (ne-eqb (suc n) 0 (λ e. absurd (omega arith)))))
 
 -- ---- heights
-module _ (may : Bool) where
-  all-digits : (bs : List ℕ) → all isDigit bs ≡ true → 1 ≤ length bs → styleOf (height (length bs) may) bs ≡ bs
-  unfolding styleOf valueOf render onNumber signed
-  all-digits bs d some = rw (digits-not-blank bs d some, digits-no-minus bs d) (put-val (length bs) bs refl d)
+anew-below : (bs : List ℕ) → (minus bs && not (eqb (valueIn bs) 0)) ≡ true → heightAnew bs ≡ set (map filled bs) 0 45
+unfolding heightAnew
+anew-below bs t = rw t
 
-  missed : (bs : List ℕ) → all isBlank bs ≡ true → styleOf (height (length bs) may) bs ≡ bs
+anew-from : (bs : List ℕ) → (minus bs && not (eqb (valueIn bs) 0)) ≡ false → heightAnew bs ≡ map filled bs
+unfolding heightAnew
+anew-from bs t = rw t
+
+-- the minus goes to the first column, where a blank or the minus itself stood
+minus-low : (b : ℕ) (ds : List ℕ) → minus (b ∷ ds) ≡ true → b < 48
+unfolding minus isBlank
+minus-low b ds h = cases (b =? 32) (λ e. omega (arith, to≡ e)) (λ e. omega (arith, to≡ (rw e at h)))
+
+low-val : (b : ℕ) (ds : List ℕ) → b < 48 → val 0 (b ∷ ds) ≡ val 0 ds
+unfolding val
+low-val b ds h = let z : b - 48 ≡ 0 = omega arith in rw z
+
+minus-laid : (bs : List ℕ) → heightForm bs ≡ true → minus bs ≡ true → set (map filled bs) 0 45 ≡ 45 ∷ put (length bs - 1) (val 0 bs)
+minus-laid [] f m = absurd (false≢true (unfold minus in m))
+minus-laid (b ∷ ds) f m =
+    let d : all isDigit (map filled ds) ≡ true = digits-behind (filled b) (map filled ds) (filled-digits (b ∷ ds) f) in
+    let v : val 0 (b ∷ ds) ≡ val 0 (map filled ds) = low-val b ds (minus-low b ds m) ∙ sym (filled-val 0 ds) in
+    ap (λ l. 45 ∷ l) (sym (ap₂ put (suc-less-one (length ds)) v ∙ put-val (length ds) (map filled ds) (length-map ds filled) d))
+
+module _ (may : Bool) (bs : List ℕ) where
+  height-is : all isBlank bs ≡ false → styleOf (height (length bs) may) bs ≡ onNumber [] (replicate (length bs) 32) (put (length bs)) (λ m. 45 ∷ put (length bs - 1) m) (num (signed (minus bs) (val 0 bs)))
+  unfolding styleOf valueOf render
+  height-is n = rw n
+
+  height-anew : length bs ≤ 16 → heightForm bs ≡ true → all isBlank bs ≡ false → heightAnew bs ≡ styleOf (height (length bs) may) bs
+  height-anew few f n =
+      let e : valueIn bs ≡ val 0 bs = value-is bs few in
+      let x : List ℕ = replicate (length bs) 32 in
+      cases (minus bs && not (eqb (valueIn bs) 0))
+      (λ t.
+      let m = two (minus bs) (not (eqb (valueIn bs) 0)) t in
+      anew-below bs t ∙ minus-laid bs f (m .0)
+      ∙ sym (height-is n ∙ below-zero x (put (length bs)) (λ k. 45 ∷ put (length bs - 1) k) (minus bs) (val 0 bs) (m .0) (λ z. not-is (valueIn bs) 0 (m .1) (e ∙ z))))
+      (λ t.
+      anew-from bs t
+      ∙ sym (height-is n ∙ from-zero x (put (length bs)) (λ k. 45 ∷ put (length bs - 1) k) (minus bs) (val 0 bs) (ap (λ v. minus bs && not (eqb v 0)) (sym e) ∙ t) ∙ filled-put bs f))
+
+  missed : all isBlank bs ≡ true → styleOf (height (length bs) may) bs ≡ bs
   unfolding styleOf valueOf render onNumber isBlank
-  missed bs h = rw h (same-bytes (λ b. b =? 32) 32 (λ b k. to≡ k) bs h)
+  missed h = rw h (same-bytes (λ b. b =? 32) 32 (λ b k. to≡ k) bs h)
 
-  -- a digit first
-  led-digits : (b : ℕ) (bs : List ℕ) → 48 ≤ b → heightForm (b ∷ bs) ≡ true → all isDigit (b ∷ bs) ≡ true
-  unfolding heightForm isBlank
-  led-digits b bs h k =
-      let n : b =? 32 ≡ false = of≢ (λ e. absurd (omega arith)) in
-      let m : b =? 45 ≡ false = of≢ (λ e. absurd (omega arith)) in
-      rw (n, m) at k
+-- what begins with a digit or, not being zero, with a minus is written anew as it stands
+led-digits : (b : ℕ) (bs : List ℕ) → 48 ≤ b → heightForm (b ∷ bs) ≡ true → all isDigit (b ∷ bs) ≡ true
+unfolding heightForm isBlank
+led-digits b bs h k =
+    let n : b =? 32 ≡ false = of≢ (λ e. absurd (omega arith)) in
+    let m : b =? 45 ≡ false = of≢ (λ e. absurd (omega arith)) in
+    rw (n, m) at k
 
-  digit-stands : (bs : List ℕ) → 48 ≤ getD bs 0 0 → heightForm bs ≡ true → styleOf (height (length bs) may) bs ≡ bs
-  digit-stands [] h f = absurd (omega arith)
-  digit-stands (b ∷ bs) h f = all-digits (b ∷ bs) (led-digits b bs h f) (omega arith)
+minus-digits : (ds : List ℕ) → heightForm (45 ∷ ds) ≡ true → (minus (45 ∷ ds) ≡ true) × (all isDigit ds ≡ true)
+unfolding heightForm minus isBlank _=?_
+minus-digits ds h = (refl, both h .1)
 
-  -- a minus first
-  minus-digits : (ds : List ℕ) → heightForm (45 ∷ ds) ≡ true → all isDigit ds ≡ true
-  unfolding heightForm isBlank _=?_
-  minus-digits ds h = both h .1
+rise-same : (bs : List ℕ) → heightForm bs ≡ true → riseStands bs ≡ true → heightAnew bs ≡ bs
+unfolding riseStands
+rise-same [] f h = absurd (false≢true (unfold _≤?_ _=?_ in h))
+rise-same (b ∷ ds) f h =
+    cases (48 ≤? b)
+    (λ t.
+    let d : all isDigit (b ∷ ds) ≡ true = led-digits b ds (to≤ t) f in
+    anew-from (b ∷ ds) (ap (λ m. m && not (eqb (valueIn (b ∷ ds)) 0)) (digits-no-minus (b ∷ ds) d)) ∙ digits-stay (b ∷ ds) d)
+    (λ t.
+    cases (b =? 45)
+    (λ m.
+    let e : b ≡ 45 = to≡ m in
+    let d = minus-digits ds (rw e at f) in
+    let below : minus (b ∷ ds) ≡ true = rw e (d .0) in
+    anew-below (b ∷ ds) (ap₂ _&&_ below (rw (t, m) at h)) ∙ ap₂ _∷_ (sym e) (digits-stay ds (d .1)))
+    (λ m. absurd (false≢true (rw (t, m) at h))))
 
-  minus-given : (ds : List ℕ) → valueOf (height (suc (length ds)) may) (45 ∷ ds) ≡ num (signed true (val 0 ds))
-  unfolding valueOf all isBlank minus val _=?_ _&_
-  minus-given ds = refl
-
-  minus-stays : (ds : List ℕ) → heightForm (45 ∷ ds) ≡ true → (val 0 ds ≡ 0 → ⊥) → styleOf (height (suc (length ds)) may) (45 ∷ ds) ≡ 45 ∷ ds
-  unfolding styleOf render
-  minus-stays ds f n =
-      ap (render (height (suc (length ds)) may)) (minus-given ds)
-      ∙ below-zero (val 0 ds) n (replicate (suc (length ds)) 32) (put (suc (length ds))) (λ m. 45 ∷ put (suc (length ds) - 1) m)
-      ∙ ap (λ l. 45 ∷ l) (ap (λ k. put k (val 0 ds)) (suc-less-one (length ds)) ∙ put-val (length ds) ds refl (minus-digits ds f))
-
-  minus-val : (ds : List ℕ) → val 0 (45 ∷ ds) ≡ val 0 ds
-  unfolding val
-  minus-val ds = refl
-
-  minus-stands : (bs : List ℕ) → length bs ≤ 7 → getD bs 0 0 ≡ 45 → not (eqb (valueIn bs) 0) ≡ true → heightForm bs ≡ true → styleOf (height (length bs) may) bs ≡ bs
-  minus-stands [] few e h f = absurd (omega arith)
-  minus-stands (b ∷ ds) few e h f =
-      let n : val 0 (b ∷ ds) ≡ 0 → ⊥ = λ z. not-is (valueIn (b ∷ ds)) 0 h (value-is (b ∷ ds) (omega arith) ∙ z) in
-      let g : heightForm (45 ∷ ds) ≡ true = rw e at f in
-      let m : val 0 ds ≡ 0 → ⊥ = λ z. n (ap (λ c. val 0 (c ∷ ds)) e ∙ minus-val ds ∙ z) in
-      ap (λ c. styleOf (height (suc (length ds)) may) (c ∷ ds)) e ∙ minus-stays ds g m ∙ ap (λ c. c ∷ ds) (sym e)
-
-  height-stands : (bs : List ℕ) → length bs ≤ 7 → heightForm bs ≡ true → heightStands bs ≡ true → styleOf (height (length bs) may) bs ≡ bs
-  unfolding heightStands
-  height-stands bs few f h =
-      cases (48 ≤? getD bs 0 0)
-      (λ t. digit-stands bs (to≤ t) f)
-      (λ t. cases (getD bs 0 0 =? 45) (λ e. minus-stands bs few (to≡ e) (rw (t, e) at h) f) (λ e. missed bs (rw (t, e) at h)))
-
-  height-back : (bs : List ℕ) → heightColumns (length bs) (heightOf (valueOf (height 0 true) bs)) ≡ render (height (length bs) may) (valueOf (height (length bs) may) bs)
-  unfolding valueOf heightOf heightValue heightColumns render onNumber
-  height-back [] = unfold all in refl
-  height-back (b ∷ bs) = cases (all isBlank (b ∷ bs)) (λ h. rw h) (λ h. rw h)
-
-  pub height-done : (w : ℕ) (bs : List ℕ) → w ≤ 7 → good (height w may) bs ≡ true → heightStyle bs ≡ styleOf (height w may) bs
-  unfolding settled heightAnew good width shape
-  height-done w bs few g =
+module _ (w : ℕ) (bs : List ℕ) (few : w ≤ 16) where
+  pub rise-done : good (height w false) bs ≡ true → heightStyle false bs ≡ styleOf (height w false) bs
+  unfolding settled good width shape fits valueOf onNumber
+  rise-done g =
       let e : length bs ≡ w = to≡ (both (both g .0) .0) in
-      let k : length bs ≤ 7 = omega arith in
-      let seven : length bs ≤? 7 ≡ true = of≤ k in
+      let f : heightForm bs ≡ true = both (both g .0) .1 in
+      cases (all isBlank bs)
+      (λ s. absurd (false≢true (rw s at (both g .1))))
+      (λ s.
+      let anew : heightAnew bs ≡ styleOf (height (length bs) false) bs = height-anew false bs (omega arith) f s in
+      rw (← e) (cases (riseStands bs) (λ t. rw t (sym (rise-same bs f t) ∙ anew)) (λ t. rw t anew)))
+
+  pub metres-done : good (height w true) bs ≡ true → heightStyle true bs ≡ styleOf (height w true) bs
+  unfolding settled metresStands good width shape
+  metres-done g =
+      let e : length bs ≡ w = to≡ (both (both g .0) .0) in
       let f : heightForm bs ≡ true = both (both g .0) .1 in
       rw (← e)
-      (cases (heightStands bs)
-      (λ t. rw t (sym (height-stands bs k f t)))
-      (λ t. rw (t, seven) (height-back bs ∙ sym (style-is (height (length bs) may) bs))))
+      (cases (all isBlank bs)
+      (λ s. cases (riseStands bs) (λ t. rw t (sym (missed true bs s))) (λ t. rw (t, s) (sym (missed true bs s))))
+      (λ s.
+      let anew : heightAnew bs ≡ styleOf (height (length bs) true) bs = height-anew true bs (omega arith) f s in
+      cases (riseStands bs) (λ t. rw t (sym (rise-same bs f t) ∙ anew)) (λ t. rw (t, s) anew)))
 
 -- ---- angles
 dms-parts : (d q t : ℕ) → q ≤ 59 → t ≤ 5_999_999 → dms (d * 360_000_000 + q * 6_000_000 + t) ≡ d * 1_000_000_000 + q * 10_000_000 + t
@@ -249,43 +306,72 @@ unfolding plus minusOf _=?_
 not-minus latitude l e = rw e
 not-minus longitude l e = rw e
 
-north-east : (way : Way) (bs : List ℕ) → getD bs (columns way) 0 ≡ plus way → styleOf (angle way) bs ≡ put (columns way) (dms (angleOf (val 0 (take (columns way) bs)))) ++ plus way ∷ []
-unfolding styleOf valueOf render onNumber angleValue signed _&_
-north-east way bs e = rw (not-minus way (getD bs (columns way) 0) e)
-
--- the digits and the letter of a good angle
+-- ---- the digits and the letter of a good angle
 module _ (way : Way) (bs : List ℕ) (g : good (angle way) bs ≡ true) where
   formed-digits : dmsForm (val 0 (take (columns way) bs)) ≡ true
   unfolding good shape
   formed-digits = both (both (both (both g .0) .1) .0) .1
 
-  angle-laid : (letter : ℕ) → getD bs (columns way) 0 ≡ letter → put (columns way) (dms (angleOf (val 0 (take (columns way) bs)))) ++ letter ∷ [] ≡ bs
+  digits-back : put (columns way) (dms (angleOf (val 0 (take (columns way) bs)))) ≡ take (columns way) bs
   unfolding good shape width
-  angle-laid letter e =
+  digits-back =
       let c = columns way in
       let long : length bs ≡ suc c = to≡ (both (both g .0) .0) in
-      let f = both (both g .0) .1 in
       let few : length (take c bs) ≡ c = length-take-le c bs (omega arith) in
+      ap (put c) (dms-back (val 0 (take c bs)) formed-digits) ∙ put-val c (take c bs) few (both (both (both (both g .0) .1) .0) .0)
+
+  -- the line's own letter, or the other
+  letter-back : (letter : ℕ) → getD bs (columns way) 0 ≡ letter → put (columns way) (dms (angleOf (val 0 (take (columns way) bs)))) ++ letter ∷ [] ≡ bs
+  letter-back letter e =
+      let c = columns way in
+      let long : length bs ≡ suc c = unfold width in good-long (angle way) bs g in
       let last : drop c bs ≡ getD bs c 0 ∷ drop (suc c) bs = drop-cons bs c 0 (omega arith) in
       let whole : length bs ≤ suc c = omega arith in
       let none : drop (suc c) bs ≡ [] = drop-of-length-le bs whole in
-      ap (λ n. put c n ++ letter ∷ []) (dms-back (val 0 (take c bs)) (both (both f .0) .1))
-      ∙ ap (λ l. l ++ letter ∷ []) (put-val c (take c bs) few (both (both f .0) .0))
-      ∙ ap (λ l. take c bs ++ l) (sym (last ∙ ap₂ _∷_ e none))
-      ∙ take-append-drop c bs
+      ap (λ l. l ++ letter ∷ []) digits-back ∙ ap (λ l. take c bs ++ l) (sym (last ∙ ap₂ _∷_ e none)) ∙ take-append-drop c bs
 
-angle-back : (way : Way) (bs : List ℕ) → num (intOf (valueOf (angle way) bs)) ≡ valueOf (angle way) bs
-unfolding valueOf intOf
-angle-back way bs = refl
+  letter-set : (letter : ℕ) → set bs (columns way) letter ≡ put (columns way) (dms (angleOf (val 0 (take (columns way) bs)))) ++ letter ∷ []
+  letter-set letter =
+      let c = columns way in
+      let long : length bs ≡ suc c = unfold width in good-long (angle way) bs g in
+      let whole : length (set bs c letter) ≤ suc c = simp length-set (omega arith) in
+      sym (take-all (suc c) (set bs c letter) whole) ∙ take-suc-set bs c letter (omega arith) ∙ ap (λ l. l ++ letter ∷ []) (sym digits-back)
+
+  minus-letter : (getD bs (columns way) 0 =? plus way) ≡ false → getD bs (columns way) 0 ≡ minusOf way
+  unfolding good shape
+  minus-letter n = to≡ (rw n at (both (both (both g .0) .1) .1))
+
+and-false : (a : Bool) → (a & false) ≡ false
+unfolding _&_
+and-false true = refl
+and-false false = refl
+
+-- ---- north and east, and what is never south or west
+plus-laid : (way : Way) (bs : List ℕ) → angleValue way (angleOf (val 0 (take (columns way) bs))) (getD bs (columns way) 0) ≡ pos (angleOf (val 0 (take (columns way) bs)))
+    → styleOf (angle way) bs ≡ put (columns way) (dms (angleOf (val 0 (take (columns way) bs)))) ++ plus way ∷ []
+unfolding styleOf valueOf render onNumber
+plus-laid way bs e = rw e
+
+plus-value : (way : Way) (m l : ℕ) → l ≡ plus way → angleValue way m l ≡ pos m
+unfolding angleValue signed _&_
+plus-value way m l e = rw (not-minus way l e)
+
+zero-value : (way : Way) (l : ℕ) → angleValue way (angleOf 0) l ≡ pos (angleOf 0)
+unfolding angleValue signed angleOf
+zero-value way l = cases (l =? minusOf way & 0 ≤? low way) (λ t. rw t) (λ t. rw t)
+
+half-value : (way : Way) (l : ℕ) → angleValue way (angleOf 180_000_000_000) l ≡ pos (angleOf 180_000_000_000)
+unfolding angleValue signed angleOf low _≤?_
+half-value latitude l = rw (and-false (l =? minusOf latitude))
+half-value longitude l = rw (and-false (l =? minusOf longitude))
 
 -- south and west
 south-west : (way : Way) (bs : List ℕ) (m : ℕ) → getD bs (columns way) 0 ≡ minusOf way → m ≡ angleOf (val 0 (take (columns way) bs)) → m ≤? low way ≡ true → (m ≡ 0 → ⊥)
     → styleOf (angle way) bs ≡ put (columns way) (dms m) ++ minusOf way ∷ []
 unfolding styleOf valueOf render angleValue
 south-west way bs m e q t n =
-    let y : (getD bs (columns way) 0 =? minusOf way) ≡ true = of≡ e in
-    let z : (getD bs (columns way) 0 =? minusOf way & m ≤? low way) ≡ true = and y t in
-    rw (← q, z) (below-zero m n [] (λ k. put (columns way) (dms k) ++ plus way ∷ []) (λ k. put (columns way) (dms k) ++ minusOf way ∷ []))
+    let z : (getD bs (columns way) 0 =? minusOf way & m ≤? low way) ≡ true = and (of≡ e) t in
+    rw (← q) (below-zero [] (λ k. put (columns way) (dms k) ++ plus way ∷ []) (λ k. put (columns way) (dms k) ++ minusOf way ∷ []) (getD bs (columns way) 0 =? minusOf way & m ≤? low way) m z n)
 
 half : (v : ℕ) → dmsForm v ≡ true → angleOf v ≡ 64_800_000_000 → v ≡ 180_000_000_000
 unfolding dms
@@ -299,11 +385,6 @@ unfolding angleOf
 nought v e =
     let k = no-parts (v / 1_000_000_000) (v / 10_000_000 % 100) (v % 10_000_000) e in
     sym (parts-back v) ∙ rw (k .0, k .1, k .2)
-
-and-false : (a : Bool) → (a & false) ≡ false
-unfolding _&_
-and-false true = refl
-and-false false = refl
 
 no-sign : (l c : ℕ) (b : Bool) → b ≡ false → (l =? c & b) ≡ false
 no-sign l c b e = rw e (and-false (l =? c))
@@ -329,42 +410,42 @@ angle-fits : (way : Way) (bs : List ℕ) → good (angle way) bs ≡ true → fi
 unfolding valueOf
 angle-fits way bs g = good-fits (angle way) bs g
 
-two : (a b : Bool) → (a && b) ≡ true → (a ≡ true) × (b ≡ true)
-two true b h = (refl, h)
-two false b h = absurd (false≢true h)
+module _ (way : Way) (bs : List ℕ) (g : good (angle way) bs ≡ true) where
+  digits-value : valueIn (take (columns way) bs) ≡ val 0 (take (columns way) bs)
+  digits-value = value-is (take (columns way) bs) (omega (arith, few-columns way, length-take-most (columns way) bs))
 
-side-stands : (way : Way) (bs : List ℕ) → good (angle way) bs ≡ true → getD bs (columns way) 0 ≡ minusOf way → sided (take (columns way) bs) ≡ true → styleOf (angle way) bs ≡ bs
-unfolding sided
-side-stands way bs g e s =
-    let ds = take (columns way) bs in
-    let v = val 0 ds in
-    let form : dmsForm v ≡ true = formed-digits way bs g in
-    let is : valueIn ds ≡ v = value-is ds (omega (arith, few-columns way, length-take-most (columns way) bs)) in
-    let t = two (not (eqb (valueIn ds) 0)) (not (eqb (valueIn ds) 180_000_000_000)) s in
-    let le : angleOf v ≤? low way ≡ true = side way v (getD bs (columns way) 0) form (angle-fits way bs g) (λ z. not-is (valueIn ds) 180_000_000_000 (t .1) (is ∙ z)) in
-    south-west way bs (angleOf v) e refl le (λ z. not-is (valueIn ds) 0 (t .0) (is ∙ nought v z)) ∙ angle-laid way bs g (minusOf way) e
+  side-stands : getD bs (columns way) 0 ≡ minusOf way → sided (take (columns way) bs) ≡ true → styleOf (angle way) bs ≡ bs
+  unfolding sided
+  side-stands e s =
+      let ds = take (columns way) bs in
+      let v = val 0 ds in
+      let form : dmsForm v ≡ true = formed-digits way bs g in
+      let t = two (not (eqb (valueIn ds) 0)) (not (eqb (valueIn ds) 180_000_000_000)) s in
+      let le : angleOf v ≤? low way ≡ true = side way v (getD bs (columns way) 0) form (angle-fits way bs g) (λ z. not-is (valueIn ds) 180_000_000_000 (t .1) (digits-value ∙ z)) in
+      south-west way bs (angleOf v) e refl le (λ z. not-is (valueIn ds) 0 (t .0) (digits-value ∙ nought v z)) ∙ letter-back way bs g (minusOf way) e
 
-letters : (way : Way) (bs : List ℕ) → good (angle way) bs ≡ true → (getD bs (columns way) 0 =? plus way) ≡ false → getD bs (columns way) 0 ≡ minusOf way
-unfolding good shape
-letters way bs g n = to≡ (rw n at (both (both (both g .0) .1) .1))
+  no-side : sided (take (columns way) bs) ≡ false → angleValue way (angleOf (val 0 (take (columns way) bs))) (getD bs (columns way) 0) ≡ pos (angleOf (val 0 (take (columns way) bs)))
+  unfolding sided
+  no-side s =
+      let ds = take (columns way) bs in
+      cases (eqb (valueIn ds) 0)
+      (λ z. let e : val 0 ds ≡ 0 = sym digits-value ∙ eqb-true (valueIn ds) 0 z in rw e (zero-value way (getD bs (columns way) 0)))
+      (λ z.
+      cases (eqb (valueIn ds) 180_000_000_000)
+      (λ y. let e : val 0 ds ≡ 180_000_000_000 = sym digits-value ∙ eqb-true (valueIn ds) 180_000_000_000 y in rw e (half-value way (getD bs (columns way) 0)))
+      (λ y. absurd (false≢true (sym (rw (z, y) at s)))))
 
-pub angle-done : (way : Way) (bs : List ℕ) → good (angle way) bs ≡ true → angleStyle way bs ≡ styleOf (angle way) bs
-unfolding settled angleStands angleAnew
-angle-done way bs g =
-    cases (getD bs (columns way) 0 =? plus way)
-    (λ t. rw t (sym (north-east way bs (to≡ t) ∙ angle-laid way bs g (plus way) (to≡ t))))
-    (λ t.
-    cases (sided (take (columns way) bs))
-    (λ s. rw (t, s) (sym (side-stands way bs g (letters way bs g t) s)))
-    (λ s. rw (t, s) (ap (λ v. written (angle way) v bs) (angle-back way bs) ∙ written-is (angle way) (valueOf (angle way) bs) bs (good-long (angle way) bs g) (good-fits (angle way) bs g) ∙ sym (style-is (angle way) bs))))
+  pub angle-done : angleStyle (columns way) (plus way) bs ≡ styleOf (angle way) bs
+  unfolding settled angleStands
+  angle-done =
+      cases (getD bs (columns way) 0 =? plus way)
+      (λ t. rw t (sym (plus-laid way bs (plus-value way _ _ (to≡ t)) ∙ letter-back way bs g (plus way) (to≡ t))))
+      (λ t.
+      cases (sided (take (columns way) bs))
+      (λ s. rw (t, s) (sym (side-stands (minus-letter way bs g t) s)))
+      (λ s. rw (t, s) (letter-set way bs g (plus way) ∙ sym (plus-laid way bs (no-side s)))))
 
 -- ---- what is written anew keeps its width
 pub height-same : (bs : List ℕ) → length (heightAnew bs) ≡ length bs
 unfolding heightAnew
-height-same bs = height-wide (length bs) _
-
-pub angle-same : (way : Way) (bs : List ℕ) → length (angleAnew way bs) ≡ length bs
-unfolding angleAnew written
-angle-same way bs =
-    let v = num (intOf (valueOf (angle way) bs)) in
-    cases (length bs =? width (angle way) & fits (angle way) v) (λ t. rw t (lawful (angle way) v (both t .1) .sized ∙ sym (to≡ (both t .0)))) (λ t. rw t)
+height-same bs = cases (minus bs && not (eqb (valueIn bs) 0)) (λ t. rw t (simp length-set (length-map bs filled))) (λ t. rw t (length-map bs filled))

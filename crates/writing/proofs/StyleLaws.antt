@@ -13,7 +13,7 @@ use lib.Seq.{length-take-le, drop-cons, drop-drop, drop-at, take-all, drop-set-l
 use borrow.Rule.Slice.PartMut.{putMid}
 use Rattle.rules.specs.Tests.{_&_, _≤?_, all}
 use Rattle.rules.specs.Digits.{put}
-use Rattle.rules.specs.Items.{num, Item, blank, constant, number, height, angle, month, media, word, onNumber, columns, width, valueOf, fits, render, good}
+use Rattle.rules.specs.Items.{num, Item, blank, constant, number, height, angle, month, media, word, onNumber, columns, plus, width, valueOf, fits, render, good}
 use Rattle.rules.specs.Fields.{read, values, columnsOf, isFormed, formed, covers}
 use Rattle.rules.specs.Records.{sequence, codeAt, entries, formedLine, meaning, lineOf}
 use Rattle.rules.specs.Kinds.{kindOf}
@@ -30,7 +30,7 @@ use Rattle.kinds.proofs.TableLaws.{rows-are-layouts, each-kind}
 use Rattle.writing.specs.Laying.{roomy, lay, layFields}
 use Rattle.writing.specs.Styling.{styleOf, goodRow, styleRow, goodRows, styleRows, filled, settled, heightStyle, angleStyle, changed, changeField, changeRows}
 use Rattle.writing.proofs.LayLaws.{line-laid, lay-length, lay-put, fits-room}
-use Rattle.writing.proofs.StandLaws.{keptAsIs, style-same, filled-back, height-done, angle-done}
+use Rattle.writing.proofs.StandLaws.{keptAsIs, style-same, number-done, rise-done, metres-done, angle-done}
 
 -- ---- a loop that changes a list in place, column by column
 module _ (f : ℕ → ℕ) (l : List ℕ) (i : ℕ) where
@@ -62,10 +62,6 @@ lay-there c n w l e p q =
     ∙ take-append-drop n l)
 
 -- ---- some columns of a line, changed
-pub changed-length : (f : List ℕ → List ℕ) (c w : ℕ) (l : List ℕ) → length (changed f c w l) ≡ length l
-unfolding changed
-changed-length f c w l = lay-length c (f (take w (drop (c - 1) l))) l
-
 module _ (l : List ℕ) (c w : ℕ) (long : length l ≡ 81) (low : 1 ≤ c) (high : c + w ≤ 81) where
   lent : take (c - 1 + w - (c - 1)) (drop (c - 1) l) ≡ take w (drop (c - 1) l)
   lent = rw (add-sub-cancel-left (c - 1) w)
@@ -95,12 +91,12 @@ module _ (l : List ℕ) (c w : ℕ) (long : length l ≡ 81) (low : 1 ≤ c) (hi
         rw s (unfold changed in part-changed anew same q)
 
 -- ---- one field
--- numbers that may not be missing, heights of at most seven columns
+-- numbers that may not be missing, heights of at most sixteen columns
 unfoldable narrow : Item → Bool
 narrow (blank w) = true
 narrow (constant c) = true
 narrow (number w lo hi may) = not may
-narrow (height w may) = w ≤? 7
+narrow (height w may) = w ≤? 16
 narrow (angle way) = true
 narrow month = true
 narrow media = true
@@ -121,9 +117,10 @@ module _ (c k : ℕ) (out : List ℕ) (from : c ≡ k + 1) where
   field-done (blank w) bs n g e p q = unfold width in field-stays (blank w) bs refl g e p q
   field-done (constant b) bs n g e p q = unfold width in field-stays (constant b) bs refl g e p q
   field-done (number w lo hi true) bs n g e p q = absurd (false≢true n)
-  field-done (number w lo hi false) bs n g e p q = field-changed (map filled) w bs (styleOf (number w lo hi false) bs) e (sym (filled-back w lo hi bs g))
-  field-done (height w may) bs n g e p q = field-changed heightStyle w bs (styleOf (height w may) bs) e (height-done may w bs (to≤ n) g)
-  field-done (angle way) bs n g e p q = field-changed (angleStyle way) (suc (columns way)) bs (styleOf (angle way) bs) e (angle-done way bs g)
+  field-done (number w lo hi false) bs n g e p q = field-changed (map filled) w bs (styleOf (number w lo hi false) bs) e (number-done w lo hi bs g)
+  field-done (height w false) bs n g e p q = field-changed (heightStyle false) w bs (styleOf (height w false) bs) e (rise-done w bs (to≤ n) g)
+  field-done (height w true) bs n g e p q = field-changed (heightStyle true) w bs (styleOf (height w true) bs) e (metres-done w bs (to≤ n) g)
+  field-done (angle way) bs n g e p q = field-changed (angleStyle (columns way) (plus way)) (suc (columns way)) bs (styleOf (angle way) bs) e (angle-done way bs g)
   field-done month bs n g e p q = unfold width in field-stays month bs refl g e p q
   field-done media bs n g e p q = unfold width in field-stays media bs refl g e p q
   field-done (word w t) bs n g e p q = unfold width in field-stays (word w t) bs refl g e p q

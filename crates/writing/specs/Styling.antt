@@ -1,17 +1,14 @@
 -- A good line in house style: what a field, a row and a kind's rows become, and how the code changes a copy of the line in place.
-use mathlib.Core.Bool.{Bool, true, cond, not, _&&_}
+use mathlib.Core.Bool.{Bool, true, false, cond, not, _&&_}
 use mathlib.Core.List.{List, [], _∷_, map}
 use Prim.Native.Nat.{ℕ, suc, _-_}
 use lib.Dec.{eqb}
-use lib.ListN.{length, getD, take, drop}
+use lib.ListN.{length, getD, set, take, drop}
 use Rattle.rules.specs.Tests.{_≤?_, _=?_, all}
 use Rattle.rules.specs.Characters.{isBlank}
 use Rattle.rules.specs.Digits.{val}
-use Rattle.rules.specs.Items.{Item, Way, blank, constant, number, height, angle, month, media, word, num, columns, plus, valueOf, render, good}
+use Rattle.rules.specs.Items.{Item, blank, constant, number, height, angle, month, media, word, minus, columns, plus, valueOf, render, good}
 use Rattle.rules.specs.Fields.{columnsOf}
-use Rattle.columns.specs.declared.Height.{Height}
-use Rattle.columns.specs.Types.{heightOf, intOf}
-use Rattle.columns.specs.Leaves.{written, heightColumns}
 use Rattle.kinds.specs.Tables.{Row, fieldOf}
 use Rattle.writing.specs.Laying.{lay}
 
@@ -35,11 +32,7 @@ unfoldable pub styleRows : List ℕ → List Row → List ℕ → List ℕ
 styleRows l [] out = out
 styleRows l (r ∷ rs) out = styleRows l rs (styleRow l r out)
 
--- ---- in place
--- 01, numbers "written zero filled": a blank becomes a zero
-unfoldable pub filled : ℕ → ℕ
-filled b = cond (b =? 32) 48 b
-
+-- ---- in place: no value is read and none is written
 -- columns that stand in house style are left, others are written anew
 unfoldable pub settled : (List ℕ → Bool) → (List ℕ → List ℕ) → List ℕ → List ℕ
 settled stands anew bs = cond (stands bs) bs (anew bs)
@@ -48,31 +41,36 @@ settled stands anew bs = cond (stands bs) bs (anew bs)
 abbrev pub valueIn : List ℕ → ℕ
 valueIn bs = cond (length bs ≤? 16) (val 0 bs) 0
 
--- 01, heights: in house style as it stands are a digit first; a minus first, and not zero; missing
-unfoldable pub heightStands : List ℕ → Bool
-heightStands bs = cond (48 ≤? getD bs 0 0) true (cond (getD bs 0 0 =? 45) (not (eqb (valueIn bs) 0)) (all isBlank bs))
+-- 01, "written zero filled": what stands before the digits becomes a zero
+unfoldable pub filled : ℕ → ℕ
+filled b = cond (48 ≤? b) b 48
 
--- a height read, and written again
+-- 01, "Signed height": in house style stand digits from the first column on, and a minus in the first column of what is not zero
+unfoldable pub riseStands : List ℕ → Bool
+riseStands bs = cond (48 ≤? getD bs 0 0) true (cond (getD bs 0 0 =? 45) (not (eqb (valueIn bs) 0)) false)
+
+-- and a height that is missing
+unfoldable pub metresStands : List ℕ → Bool
+metresStands bs = cond (riseStands bs) true (all isBlank bs)
+
+-- any other height: zeros before the digits, and a minus in the first column of what is below zero
 unfoldable pub heightAnew : List ℕ → List ℕ
-heightAnew bs = heightColumns (length bs) (cond (length bs ≤? 7) (heightOf (valueOf (height 0 true) bs)) Height.Missing)
+heightAnew bs = cond (minus bs && not (eqb (valueIn bs) 0)) (set (map filled bs) 0 45) (map filled bs)
 
-abbrev pub heightStyle : List ℕ → List ℕ
-heightStyle = settled heightStands heightAnew
+abbrev pub heightStyle : Bool → List ℕ → List ℕ
+heightStyle may = settled (cond may metresStands riseStands) heightAnew
 
 -- digits of an angle that is neither zero nor 180 degrees
 unfoldable pub sided : List ℕ → Bool
 sided bs = not (eqb (valueIn bs) 0) && not (eqb (valueIn bs) 180_000_000_000)
 
--- 01, angles: in house style as it stands are north and east; south and west that are neither zero nor 180 degrees
-unfoldable pub angleStands : Way → List ℕ → Bool
-angleStands way bs = cond (getD bs (columns way) 0 =? plus way) true (sided (take (columns way) bs))
+-- 01, angles of n digits and a letter: in house style stand north and east, and south and west of what is neither zero nor 180 degrees
+unfoldable pub angleStands : (n plus : ℕ) → List ℕ → Bool
+angleStands n plus bs = cond (getD bs n 0 =? plus) true (sided (take n bs))
 
--- an angle read, and written again
-unfoldable pub angleAnew : Way → List ℕ → List ℕ
-angleAnew way bs = written (angle way) (num (intOf (valueOf (angle way) bs))) bs
-
-abbrev pub angleStyle : Way → List ℕ → List ℕ
-angleStyle way = settled (angleStands way) (angleAnew way)
+-- any other angle gets the other letter
+abbrev pub angleStyle : (n plus : ℕ) → List ℕ → List ℕ
+angleStyle n plus = settled (angleStands n plus) (λ bs. set bs n plus)
 
 -- w columns of a line from column c on become what f makes of them
 unfoldable pub changed : (List ℕ → List ℕ) → ℕ → ℕ → List ℕ → List ℕ
@@ -83,8 +81,8 @@ unfoldable pub changeField : Item → ℕ → List ℕ → List ℕ
 changeField (blank w) c l = l
 changeField (constant b) c l = l
 changeField (number w lo hi may) c l = changed (map filled) c w l
-changeField (height w may) c l = changed heightStyle c w l
-changeField (angle way) c l = changed (angleStyle way) c (suc (columns way)) l
+changeField (height w may) c l = changed (heightStyle may) c w l
+changeField (angle way) c l = changed (angleStyle (columns way) (plus way)) c (suc (columns way)) l
 changeField month c l = l
 changeField media c l = l
 changeField (word w t) c l = l

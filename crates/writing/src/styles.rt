@@ -1,13 +1,8 @@
-// The record of a good line in house style: the line as it stands, and in this copy, in place, the numbers, heights and angles that are
-// not in house style yet. The tests of what stands already are small, so that the compiler puts them where they are asked and calls nothing;
-// only what has to be read and written again is a call.
+// The record of a good line in house style: the line as it stands, and in this copy, in place, what is not in house style yet. The tests of
+// what stands already are small, so that the compiler puts them where they are asked and nothing is called.
 use crate::laying::lay_number;
 use crate::laying::lay_one;
-use columns::Way;
-use columns::angles::put_angle;
-use columns::angles::read_angle;
-use columns::heights::put_height;
-use columns::heights::read_height;
+use columns::heights::has_minus;
 use columns::numbers::value_of;
 use columns::parts::byte_at;
 use columns::parts::middle;
@@ -21,46 +16,43 @@ use kinds::Occupation;
 use kinds::Point;
 use kinds::Sequence;
 ghost use mathlib.Core.Path.{_≡_};
-ghost use mathlib.Core.Bool.{true};
+ghost use mathlib.Core.Bool.{true, false};
 ghost use mathlib.Core.List.{[], map};
 ghost use Prim.Native.Nat.{_+_, _≤_, _<_};
 ghost use lib.IntN.{pos};
-ghost use lib.ListN.{length, getD, take};
-ghost use Rattle.rules.specs.Tests.{_=?_};
-ghost use Rattle.rules.specs.Items.{num, columns, plus};
+ghost use lib.ListN.{length, getD, set};
+ghost use Rattle.rules.specs.Items.{num};
 ghost use Rattle.rules.specs.Records.{codeAt, formedLine, meaning, lineOf};
 ghost use Rattle.rules.specs.Kinds.{kindOf};
 ghost use Rattle.rules.specs.Chapter4.{chapter4};
-ghost use Rattle.columns.specs.Types.{wayOf};
 ghost use Rattle.kinds.specs.Tables.{rowLists};
-ghost use Rattle.writing.specs.Styling.{filled, heightStands, heightAnew, heightStyle, sided, angleStands, angleAnew, angleStyle, changed, changeRows};
+ghost use Rattle.writing.specs.Styling.{filled, riseStands, metresStands, heightAnew, heightStyle, sided, angleStands, angleStyle, changed, changeRows};
 
-// A blank before a number's digits is a zero in house style.
-fn zero_for_blank(b: u8) -> u8
+// What stands before the digits of a number or a height is a zero in house style.
+fn zero_before_digits(b: u8) -> u8
     ensures { λ r. ⌜ r ≡ filled b ⌝ }
 {
-    if b == 32 {
-        return 48;
+    if 48 <= b {
+        return b;
     }
-    b
+    48
 }
 
-// A good number that is not missing has nothing but blanks and digits, so no value is read and none is written. No branch: the
-// compiler fills many columns at once.
-fn fill_blanks(part: &mut [u8])
+// No value is read and none is written, and no branch is taken: the compiler fills many columns at once.
+fn fill(part: &mut [u8])
     ensures { λ _. ⌜ now (part .exit) ≡ map filled (now (part .entry)) ⌝ }
 {
     let n = part.len();
     let mut i: usize = 0;
     while i < n {
-        part[i] = zero_for_blank(part[i]);
+        part[i] = zero_before_digits(part[i]);
         i += 1;
     }
 }
 
-// A good height that begins with a digit is in house style; with a minus, if it is not zero; else if it is missing.
-fn height_stands(part: &[u8]) -> bool
-    ensures { λ r. ⌜ r ≡ heightStands (now (part .entry)) ⌝ }
+// A good height that begins with a digit is in house style, and one that begins with a minus unless it is zero.
+fn rise_stands(part: &[u8]) -> bool
+    ensures { λ r. ⌜ r ≡ riseStands (now (part .entry)) ⌝ }
 {
     let first = byte_at(part, 0);
     if 48 <= first {
@@ -69,23 +61,29 @@ fn height_stands(part: &[u8]) -> bool
     if first == 45 {
         return value_of(part) != 0;
     }
+    false
+}
+
+// So is one that is missing.
+fn metres_stands(part: &[u8]) -> bool
+    ensures { λ r. ⌜ r ≡ metresStands (now (part .entry)) ⌝ }
+{
+    if rise_stands(part) {
+        return true;
+    }
     all_blank(part)
 }
 
+// The minus of a zero goes, any other goes to the first column.
 fn write_height(part: &mut [u8])
+    requires { ⌜ 1 ≤ length (now part) ⌝ }
     ensures { λ _. ⌜ now (part .exit) ≡ heightAnew (now (part .entry)) ⌝ }
 {
-    let h = read_height(part);
-    put_height(part, h);
-}
-
-// North or east.
-fn is_plus(part: &[u8], way: Way) -> bool
-    ensures { λ r. ⌜ r ≡ getD (now (part .entry)) (columns (wayOf way)) 0 =? plus (wayOf way) ⌝ }
-{
-    match way {
-        Way::Latitude => byte_at(part, 11) == b'N',
-        Way::Longitude => byte_at(part, 12) == b'E',
+    let minus = has_minus(part);
+    let value = value_of(part);
+    fill(part);
+    if minus & (value != 0) {
+        part[0] = 45;
     }
 }
 
@@ -97,63 +95,69 @@ fn is_sided(digits: &[u8]) -> bool
     (value != 0) & (value != 180_000_000_000)
 }
 
-fn has_side(part: &[u8], way: Way) -> bool
-    ensures { λ r. ⌜ r ≡ sided (take (columns (wayOf way)) (now (part .entry))) ⌝ }
+// North or east, or rightly south or west: n digits and a letter.
+fn angle_stands(part: &[u8], n: usize, plus: u8) -> bool
+    ensures { λ r. ⌜ r ≡ angleStands n plus (now (part .entry)) ⌝ }
 {
-    match way {
-        Way::Latitude => is_sided(middle(part, 0, 11)),
-        Way::Longitude => is_sided(middle(part, 0, 12)),
-    }
-}
-
-fn angle_stands(part: &[u8], way: Way) -> bool
-    ensures { λ r. ⌜ r ≡ angleStands (wayOf way) (now (part .entry)) ⌝ }
-{
-    if is_plus(part, way) {
+    if byte_at(part, n) == plus {
         return true;
     }
-    has_side(part, way)
+    is_sided(middle(part, 0, n))
 }
 
-fn write_angle(part: &mut [u8], way: Way)
-    ensures { λ _. ⌜ now (part .exit) ≡ angleAnew (wayOf way) (now (part .entry)) ⌝ }
+fn put_letter(part: &mut [u8], n: usize, letter: u8)
+    requires { ⌜ n < length (now part) ⌝ }
+    ensures { λ _. ⌜ now (part .exit) ≡ set (now (part .entry)) n letter ⌝ }
 {
-    let z = read_angle(part, way);
-    put_angle(part, z, way);
+    part[n] = letter;
 }
 
-// The columns from `first` on of a line of 81.
+// The columns from `first` on of a line of 81. A height that may be missing and one that may not have each their own, small enough to stand
+// where they are asked for; what they share is written anew in one place.
 fn style_number(line: &mut [u8], first: usize, w: usize)
     requires { ⌜ (length (now line) ≡ 81) × (1 ≤ first) × (first + w ≤ 81) ⌝ }
     ensures { λ _. ⌜ now (line .exit) ≡ changed (map filled) first w (now (line .entry)) ⌝ }
 {
     let at = first - 1;
     let end = at + w;
-    fill_blanks(&mut line[at..end]);
+    fill(&mut line[at..end]);
 }
 
-fn style_height(line: &mut [u8], first: usize, w: usize)
-    requires { ⌜ (length (now line) ≡ 81) × (1 ≤ first) × (first + w ≤ 81) ⌝ }
-    ensures { λ _. ⌜ now (line .exit) ≡ changed heightStyle first w (now (line .entry)) ⌝ }
+fn style_rise(line: &mut [u8], first: usize, w: usize)
+    requires { ⌜ (length (now line) ≡ 81) × (1 ≤ first) × (first + w ≤ 81) × (1 ≤ w) ⌝ }
+    ensures { λ _. ⌜ now (line .exit) ≡ changed (heightStyle false) first w (now (line .entry)) ⌝ }
 {
     let at = first - 1;
     let end = at + w;
-    if height_stands(&line[at..end]) {
+    if rise_stands(&line[at..end]) {
         return;
     }
     write_height(&mut line[at..end]);
 }
 
-fn style_angle(line: &mut [u8], first: usize, w: usize, way: Way)
-    requires { ⌜ (length (now line) ≡ 81) × (1 ≤ first) × (first + w ≤ 81) ⌝ }
-    ensures { λ _. ⌜ now (line .exit) ≡ changed (angleStyle (wayOf way)) first w (now (line .entry)) ⌝ }
+fn style_metres(line: &mut [u8], first: usize, w: usize)
+    requires { ⌜ (length (now line) ≡ 81) × (1 ≤ first) × (first + w ≤ 81) × (1 ≤ w) ⌝ }
+    ensures { λ _. ⌜ now (line .exit) ≡ changed (heightStyle true) first w (now (line .entry)) ⌝ }
 {
     let at = first - 1;
     let end = at + w;
-    if angle_stands(&line[at..end], way) {
+    if metres_stands(&line[at..end]) {
         return;
     }
-    write_angle(&mut line[at..end], way);
+    write_height(&mut line[at..end]);
+}
+
+// n digits and a letter, which is `plus` in the north or east.
+fn style_angle(line: &mut [u8], first: usize, n: usize, plus: u8)
+    requires { ⌜ (length (now line) ≡ 81) × (1 ≤ first) × (first + (n + 1) ≤ 81) ⌝ }
+    ensures { λ _. ⌜ now (line .exit) ≡ changed (angleStyle n plus) first (n + 1) (now (line .entry)) ⌝ }
+{
+    let at = first - 1;
+    let end = at + (n + 1);
+    if angle_stands(&line[at..end], n, plus) {
+        return;
+    }
+    put_letter(&mut line[at..end], n, plus);
 }
 
 fn style_occupation(line: &mut [u8])
@@ -172,7 +176,7 @@ fn style_measurement(line: &mut [u8])
     style_number(line, Measurement::STATION, Measurement::STATION_WIDTH);
     style_number(line, Measurement::DATE, Measurement::DATE_WIDTH);
     style_number(line, Measurement::TIME, Measurement::TIME_WIDTH);
-    style_height(line, Measurement::HEIGHT, Measurement::HEIGHT_WIDTH);
+    style_rise(line, Measurement::HEIGHT, Measurement::HEIGHT_WIDTH);
 }
 
 fn style_instrument(line: &mut [u8])
@@ -195,8 +199,8 @@ fn style_point(line: &mut [u8])
     ensures { λ _. ⌜ now (line .exit) ≡ changeRows (getD rowLists 9 []) (now (line .entry)) ⌝ }
 {
     style_number(line, Point::STATION, Point::STATION_WIDTH);
-    style_angle(line, Point::LATITUDE, 12, Way::Latitude);
-    style_angle(line, Point::LONGITUDE, 13, Way::Longitude);
+    style_angle(line, Point::LATITUDE, Point::LATITUDE_WIDTH, b'N');
+    style_angle(line, Point::LONGITUDE, Point::LONGITUDE_WIDTH, b'E');
 }
 
 fn style_heights(line: &mut [u8])
@@ -204,9 +208,9 @@ fn style_heights(line: &mut [u8])
     ensures { λ _. ⌜ now (line .exit) ≡ changeRows (getD rowLists 10 []) (now (line .entry)) ⌝ }
 {
     style_number(line, Heights::STATION, Heights::STATION_WIDTH);
-    style_height(line, Heights::ORTHOMETRIC, Heights::ORTHOMETRIC_WIDTH);
-    style_height(line, Heights::GEOID, Heights::GEOID_WIDTH);
-    style_height(line, Heights::ELLIPSOID, Heights::ELLIPSOID_WIDTH);
+    style_metres(line, Heights::ORTHOMETRIC, Heights::ORTHOMETRIC_WIDTH);
+    style_metres(line, Heights::GEOID, Heights::GEOID_WIDTH);
+    style_metres(line, Heights::ELLIPSOID, Heights::ELLIPSOID_WIDTH);
 }
 
 // Columns 11-80. The other kinds have nothing that could be in another style.

@@ -1,15 +1,13 @@
 use mathlib.Core.Path.{refl}
-use mathlib.Core.Bool.{true, false≢true}
+use mathlib.Core.Bool.{false≢true}
 use Rattle.kinds.specs.Values.{expectOf}
-use Rattle.judging.proofs.RecordLaws.{kind-good, text-passes}
+use Rattle.judging.proofs.RecordLaws.{kind-good, text-kind}
 use borrow.Author.Needs.{needs}
 use Rattle.judging.proofs.records.is_good.Statement.{statement}
 use Rattle.judging.proofs.records.is_good.Tie as tie
 
 returns : tie.Need-returns
-returns c =
-    let s = c .before .before in
-    kind-good (expectOf (s .args .e)) (s .args .line .now) (s .args .kind) 0 (s .pre .1) (c .match .keys1) true (text-passes _ (s .args .line .now) _ refl refl refl refl (s .pre .0) (s .pre .2))
+returns c = let s = c .before .before in text-kind (expectOf (s .args .e)) (s .args .line .now) (s .args .kind) 0 (s .pre .1) (c .match .keys1) refl (s .pre .0) (s .pre .2)
 
 returns-2 : tie.Need-returns-2
 returns-2 c =
@@ -18,9 +16,7 @@ returns-2 c =
     kind-good (expectOf (s .args .e)) (s .args .line .now) (s .args .kind) 4 (s .pre .1) (m .match .keys2) (c .good-occupation .result) (c .good-occupation .ensures)
 
 returns-3 : tie.Need-returns-3
-returns-3 c =
-    let s = c .before .before in
-    kind-good (expectOf (s .args .e)) (s .args .line .now) (s .args .kind) 5 (s .pre .1) (c .match .keys3) true (text-passes _ (s .args .line .now) _ refl refl refl refl (s .pre .0) (s .pre .2))
+returns-3 c = let s = c .before .before in text-kind (expectOf (s .args .e)) (s .args .line .now) (s .args .kind) 5 (s .pre .1) (c .match .keys3) refl (s .pre .0) (s .pre .2)
 
 returns-4 : tie.Need-returns-4
 returns-4 c =
@@ -41,19 +37,13 @@ returns-6 c =
     kind-good (expectOf (s .args .e)) (s .args .line .now) (s .args .kind) 10 (s .pre .1) (m .match .keys6) (c .good-heights .result) (c .good-heights .ensures)
 
 returns-7 : tie.Need-returns-7
-returns-7 c =
-    let s = c .before .before in
-    kind-good (expectOf (s .args .e)) (s .args .line .now) (s .args .kind) 11 (s .pre .1) (c .match .keys7) true (text-passes _ (s .args .line .now) _ refl refl refl refl (s .pre .0) (s .pre .2))
+returns-7 c = let s = c .before .before in text-kind (expectOf (s .args .e)) (s .args .line .now) (s .args .kind) 11 (s .pre .1) (c .match .keys7) refl (s .pre .0) (s .pre .2)
 
 returns-8 : tie.Need-returns-8
-returns-8 c =
-    let s = c .before .before in
-    kind-good (expectOf (s .args .e)) (s .args .line .now) (s .args .kind) 12 (s .pre .1) (c .match .keys8) true (text-passes _ (s .args .line .now) _ refl refl refl refl (s .pre .0) (s .pre .2))
+returns-8 c = let s = c .before .before in text-kind (expectOf (s .args .e)) (s .args .line .now) (s .args .kind) 12 (s .pre .1) (c .match .keys8) refl (s .pre .0) (s .pre .2)
 
 returns-9 : tie.Need-returns-9
-returns-9 c =
-    let s = c .before .before in
-    kind-good (expectOf (s .args .e)) (s .args .line .now) (s .args .kind) 13 (s .pre .1) (c .match .keys9) true (text-passes _ (s .args .line .now) _ refl refl refl refl (s .pre .0) (s .pre .2))
+returns-9 c = let s = c .before .before in text-kind (expectOf (s .args .e)) (s .args .line .now) (s .args .kind) 13 (s .pre .1) (c .match .keys9) refl (s .pre .0) (s .pre .2)
 
 returns-10 : tie.Need-returns-10
 returns-10 c = λ q. absurd (false≢true q)

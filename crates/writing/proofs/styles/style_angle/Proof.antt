@@ -1,7 +1,7 @@
 use borrow.Author.Needs.{needs}
-use Rattle.columns.specs.Types.{wayOf}
-use Rattle.writing.specs.Styling.{angleStands, angleAnew}
-use Rattle.writing.proofs.StandLaws.{angle-same}
+use Prim.Native.Nat.{_+_}
+use lib.ListN.{set, length-set}
+use Rattle.writing.specs.Styling.{angleStands}
 use Rattle.writing.proofs.StyleLaws.{part-left, part-anew}
 use Rattle.writing.proofs.styles.style_angle.Statement.{statement}
 use Rattle.writing.proofs.styles.style_angle.Tie as tie
@@ -10,14 +10,14 @@ returns : tie.Need-returns
 returns c =
     let s = c .before .before .before .before .before in
     let a = s .args in
-    part-left (a .line .now) (a .first) (a .w) (s .pre .0) (s .pre .1) (s .pre .2) (angleStands (wayOf (a .way))) (angleAnew (wayOf (a .way))) (c .before .angle-stands .ensures) (c .if1 .taken)
+    part-left (a .line .now) (a .first) (a .n + 1) (s .pre .0) (s .pre .1) (s .pre .2) (angleStands (a .n) (a .plus)) (λ bs. set bs (a .n) (a .plus)) (c .before .angle-stands .ensures) (c .if1 .taken)
 
 returns-2 : tie.Need-returns-2
 returns-2 c =
     let b = c .before .before .before .before in
     let s = b .before .before .before .before .before in
     let a = s .args in
-    part-anew (a .line .now) (a .first) (a .w) (s .pre .0) (s .pre .1) (s .pre .2) (angleStands (wayOf (a .way))) (angleAnew (wayOf (a .way))) (b .before .angle-stands .ensures) (angle-same (wayOf (a .way))) (b .if1 .left) (c .before .before .write-angle .ensures)
+    part-anew (a .line .now) (a .first) (a .n + 1) (s .pre .0) (s .pre .1) (s .pre .2) (angleStands (a .n) (a .plus)) (λ bs. set bs (a .n) (a .plus)) (b .before .angle-stands .ensures) (λ bs. length-set bs (a .n) (a .plus)) (b .if1 .left) (c .before .before .put-letter .ensures)
 
 pub style-angle-spec : {M : Type 1} → statement M
-style-angle-spec = tie.close (tie.spec (λ c. search needs) (λ c. search needs) (λ c. search needs) (λ c. search needs) (λ c. search needs) (λ c κs. search needs) (λ c. search needs) returns (λ c. search needs) (λ c. search needs) (λ c. search needs) (λ c κs. search needs) (λ c. search needs) returns-2)
+style-angle-spec = tie.close (tie.spec (λ c. search needs) (λ c. search needs) (λ c. search needs) (λ c. search needs) (λ c. search needs) (λ c. search needs) (λ c κs. search needs) (λ c. search needs) returns (λ c. search needs) (λ c. search needs) (λ c. search needs) (λ c κs. search needs) (λ c. search needs) returns-2)

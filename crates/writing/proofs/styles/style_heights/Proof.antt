@@ -6,7 +6,7 @@ use Rattle.writing.proofs.styles.style_heights.Tie as tie
 
 returns : tie.Need-returns
 unfolding changeRows changeField fieldOf
-returns c = rw (c .before .before .style-height3 .ensures, c .before .before .before .before .before .before .style-height2 .ensures, c .before .before .before .before .before .before .before .before .before .before .style-height .ensures, c .before .before .before .before .before .before .before .before .before .before .before .before .before .before .style-number .ensures)
+returns c = rw (c .before .before .style-metres3 .ensures, c .before .before .before .before .before .before .style-metres2 .ensures, c .before .before .before .before .before .before .before .before .before .before .style-metres .ensures, c .before .before .before .before .before .before .before .before .before .before .before .before .before .before .style-number .ensures)
 
 pub style-heights-spec : {M : Type 1} → statement M
 style-heights-spec = tie.close (tie.spec (λ c κs. search needs) (λ c κs. search needs) (λ c κs. search needs) (λ c κs. search needs) (λ c. search needs) returns)

@@ -10,7 +10,7 @@ returns : tie.Need-returns
 returns c =
     let s = c .before .before .before .before .before in
     let a = s .args in
-    part-changed (a .line .now) (a .first) (a .w) (s .pre .0) (s .pre .1) (s .pre .2) (map filled) (λ bs. length-map bs filled) (c .before .before .fill-blanks .ensures)
+    part-changed (a .line .now) (a .first) (a .w) (s .pre .0) (s .pre .1) (s .pre .2) (map filled) (λ bs. length-map bs filled) (c .before .before .fill .ensures)
 
 pub style-number-spec : {M : Type 1} → statement M
 style-number-spec = tie.close (tie.spec (λ c. search needs) (λ c. search needs) (λ c. search needs) (λ c. search needs) (λ c. search needs) (λ c κs. search needs) (λ c. search needs) returns)

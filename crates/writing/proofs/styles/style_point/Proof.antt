@@ -1,5 +1,5 @@
 use borrow.Author.Needs.{needs}
-use Rattle.rules.specs.Items.{columns}
+use Rattle.rules.specs.Items.{columns, plus}
 use Rattle.columns.specs.Types.{wayOf}
 use Rattle.kinds.specs.Tables.{fieldOf}
 use Rattle.writing.specs.Styling.{changeField, changeRows}
@@ -7,7 +7,7 @@ use Rattle.writing.proofs.styles.style_point.Statement.{statement}
 use Rattle.writing.proofs.styles.style_point.Tie as tie
 
 returns : tie.Need-returns
-unfolding changeRows changeField fieldOf columns wayOf
+unfolding changeRows changeField fieldOf columns plus wayOf
 returns c = rw (c .before .before .style-angle2 .ensures, c .before .before .before .before .before .before .style-angle .ensures, c .before .before .before .before .before .before .before .before .before .before .style-number .ensures)
 
 pub style-point-spec : {M : Type 1} → statement M

@@ -1,4 +1,3 @@
-use mathlib.Core.Path.{_∙_}
 use borrow.Author.Needs.{needs}
 use Rattle.writing.specs.Styling.{heightAnew}
 use Rattle.writing.proofs.styles.write_height.Statement.{statement}
@@ -6,7 +5,11 @@ use Rattle.writing.proofs.styles.write_height.Tie as tie
 
 returns : tie.Need-returns
 unfolding heightAnew
-returns c = c .before .before .put-height .ensures ∙ rw (c .before .before .before .before .read-height .ensures)
+returns c = rw (← c .before .before .before .before .before .before .before .has-minus .ensures, ← c .before .before .before .before .before .value-of .ensures, c .if1 .taken, c .before .before .before .fill .ensures)
+
+returns-2 : tie.Need-returns-2
+unfolding heightAnew
+returns-2 c = rw (← c .before .before .before .before .before .before .before .has-minus .ensures, ← c .before .before .before .before .before .value-of .ensures, c .if1 .left, c .before .before .before .fill .ensures)
 
 pub write-height-spec : {M : Type 1} → statement M
-write-height-spec = tie.close (tie.spec (λ c κs. search needs) (λ c κs. search needs) (λ c. search needs) returns)
+write-height-spec = tie.close (tie.spec (λ c κs. search needs) (λ c κs. search needs) (λ c κs. search needs) (λ c. search needs) (λ c. search needs) returns (λ c. search needs) returns-2)

@@ -7,8 +7,8 @@ use lib.ListN.{length, take, drop, length-set}
 use borrow.Author.Needs.{needs}
 use Rattle.writing.specs.Styling.{filled}
 use Rattle.writing.proofs.StyleLaws.{map-turn, map-end}
-use Rattle.writing.proofs.styles.fill_blanks.Statement.{statement}
-use Rattle.writing.proofs.styles.fill_blanks.Tie as tie
+use Rattle.writing.proofs.styles.fill.Statement.{statement}
+use Rattle.writing.proofs.styles.fill.Tie as tie
 
 abbrev Inv-loop : tie.InvT-loop
 Inv-loop part₀ n i₀ part i = (n ≡ length part) × (i ≤ n) × (take i part ++ map filled (drop i part) ≡ map filled part₀)
@@ -19,10 +19,10 @@ abbrev μ-loop : tie.MeasureT-loop
 loop-again : tie.Need-loop-again Inv-loop μ-loop
 loop-again c =
     let s = c .before .before .before .loop in
-    (simp length-set (s .inv .0), omega arith, map-turn filled (s .part) (s .i) _ (c .zero-for-blank .ensures) (omega arith) ∙ s .inv .2)
+    (simp length-set (s .inv .0), omega arith, map-turn filled (s .part) (s .i) _ (c .zero-before-digits .ensures) (omega arith) ∙ s .inv .2)
 
 returns : tie.Need-returns Inv-loop μ-loop
 returns c = let s = c .before .loop in sym (map-end filled (s .part) (s .i) (omega arith)) ∙ s .inv .2
 
-pub fill-blanks-spec : {M : Type 1} → statement M
-fill-blanks-spec = tie.close (tie.spec Inv-loop μ-loop (λ c. (search needs, omega arith, refl)) (λ c. search needs) (λ c κs. search needs) (λ c. search needs) (λ c. search needs) (λ c. search needs) loop-again (λ c. search needs) returns)
+pub fill-spec : {M : Type 1} → statement M
+fill-spec = tie.close (tie.spec Inv-loop μ-loop (λ c. (search needs, omega arith, refl)) (λ c. search needs) (λ c κs. search needs) (λ c. search needs) (λ c. search needs) (λ c. search needs) loop-again (λ c. search needs) returns)

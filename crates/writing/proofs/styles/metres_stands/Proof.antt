@@ -1,0 +1,15 @@
+use borrow.Author.Needs.{needs}
+use Rattle.writing.specs.Styling.{metresStands}
+use Rattle.writing.proofs.styles.metres_stands.Statement.{statement}
+use Rattle.writing.proofs.styles.metres_stands.Tie as tie
+
+returns : tie.Need-returns
+unfolding metresStands
+returns c = rw (← c .before .rise-stands .ensures, c .if1 .taken)
+
+returns-2 : tie.Need-returns-2
+unfolding metresStands
+returns-2 c = rw (← c .before .before .rise-stands .ensures, c .before .if1 .left, c .all-blank .ensures)
+
+pub metres-stands-spec : {M : Type 1} → statement M
+metres-stands-spec = tie.close (tie.spec (λ c κs. search needs) returns (λ c κs. search needs) returns-2)
