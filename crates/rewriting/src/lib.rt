@@ -16,7 +16,7 @@ ghost use Rattle.rules.specs.Calls.{rewriteAnswer, rewriteTable, rewriteOutput}
 ghost use Rattle.rules.specs.Chapter4.{chapter4};
 ghost use Rattle.kinds.specs.Values.{checkedOf};
 
-// Each record's values and texts anew, record r with the sequence number 10 x r. The lines are good, so none is judged again.
+// Each record in house style, record r with the sequence number 10 x r. The lines are good, so none is judged again.
 fn style_lines(file: &[u8], out: &mut [u8])
     requires { ⌜ (formedLines chapter4 1 (lines (now file)) ≡ true) × (length (now file) ≤ length (now out)) ⌝ }
     ensures { λ _. ⌜ now (out .exit) ≡ rewritten chapter4 (now (file .entry)) ++ drop (length (now (file .entry))) (now (out .entry)) ⌝ }

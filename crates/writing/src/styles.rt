@@ -1,5 +1,5 @@
-// The record of a good line in house style: the line as it stands, and in this copy, in place, what is not in house style yet. The tests of
-// what stands already are small, so that the compiler puts them where they are asked and nothing is called.
+// The record of a good line in house style: the line is copied once, and in the copy, in place, what is not in house style yet is put right.
+// A height or an angle that stands already costs a test and nothing else.
 use crate::laying::lay_number;
 use crate::laying::lay_one;
 use columns::heights::has_minus;
@@ -112,8 +112,7 @@ fn put_letter(part: &mut [u8], n: usize, letter: u8)
     part[n] = letter;
 }
 
-// The columns from `first` on of a line of 81. A height that may be missing and one that may not have each their own, small enough to stand
-// where they are asked for; what they share is written anew in one place.
+// The columns from `first` on of a line of 81.
 fn style_number(line: &mut [u8], first: usize, w: usize)
     requires { ⌜ (length (now line) ≡ 81) × (1 ≤ first) × (first + w ≤ 81) ⌝ }
     ensures { λ _. ⌜ now (line .exit) ≡ changed (map filled) first w (now (line .entry)) ⌝ }
@@ -123,6 +122,7 @@ fn style_number(line: &mut [u8], first: usize, w: usize)
     fill(&mut line[at..end]);
 }
 
+// A height that may not be missing has a test of its own: it is the shorter, and the heights of the most records are of this sort.
 fn style_rise(line: &mut [u8], first: usize, w: usize)
     requires { ⌜ (length (now line) ≡ 81) × (1 ≤ first) × (first + w ≤ 81) × (1 ≤ w) ⌝ }
     ensures { λ _. ⌜ now (line .exit) ≡ changed (heightStyle false) first w (now (line .entry)) ⌝ }
