@@ -115,5 +115,5 @@ fn nothing_is_lost_at_any_point() {
 #[test]
 #[ignore = "takes minutes"]
 fn nothing_is_lost_at_1_000_points() {
-    assert_eq!(killed_at_every_point("kill-long", 130, 1_000), 1_000);
+    assert_eq!(killed_at_every_point("kill-long", 150, 1_000), 1_000);
 }
