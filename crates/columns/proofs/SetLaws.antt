@@ -1,8 +1,8 @@
 -- A set as its two ranges and three characters is the set. Below 128 the two are compared one by one, by computing; above, neither holds. Assumes nothing.
-use mathlib.Core.Path.{_≡_, refl, sym, ap, _∙_}
-use mathlib.Core.Bool.{Bool, true, false, cond, not, _&&_, _||_, and-false, false≢true}
+use mathlib.Core.Path.{_≡_, refl, sym, _∙_}
+use mathlib.Core.Bool.{Bool, true, false, cond, not, and-false}
 use mathlib.Core.List.{List, [], _∷_}
-use Prim.Native.Nat.{ℕ, zero, suc, _≤_, _<_}
+use Prim.Native.Nat.{ℕ, _≤_, _<_}
 use native.Mathlib.Omega.{arith}
 use lib.Dec.{leb}
 use borrow.Author.Tests.{lt-leb, ne-eqb}
@@ -10,7 +10,7 @@ use Rattle.rules.specs.Tests.{_&_, _≤?_, _=?_, within, all}
 use Rattle.rules.specs.Characters as rules
 use Rattle.rules.specs.Characters.{ascii, isPrintable, isBlank, isDigit, isLetter, anyOf, titleMarks, isTitle, member}
 use Rattle.rules.specs.Items.{word, each, passes, fits, render, text, onText}
-use Rattle.rules.proofs.Truth.{both, and, of≡, to-within, is-no, cases, to≤, no≤}
+use Rattle.rules.proofs.Truth.{both, and, of≡, to-within, is-no, cases, to≤, no≤, under, tried}
 use Rattle.rules.proofs.Lawful.{lawful}
 use Rattle.columns.specs.Types.{setOf}
 use Rattle.columns.specs.Leaves.{inside, ranges, rangesOf}
@@ -26,18 +26,6 @@ agreed true true h = refl
 agreed true false h = sym h
 agreed false true h = h
 agreed false false h = refl
-
-under : ℕ → List ℕ
-under zero = []
-under (suc n) = n ∷ under n
-
-tried : (p : ℕ → Bool) (n k : ℕ) → all p (under n) ≡ true → k < n → p k ≡ true
-unfolding all under
-tried p zero k h l = absurd (omega arith)
-tried p (suc n) k h l = cases (suc k ≤? n) (λ f. tried p n k (both h .1) (to≤ f)) (λ f. rw (same f) (both h .0))
-  where
-    same : suc k ≤? n ≡ false → k ≡ n
-    same f = omega (arith, no≤ f)
 
 -- ---- below 128
 low : (s : Set) → all (λ b. agree (inside (rangesOf s) b) (member (setOf s) b)) (under 128) ≡ true

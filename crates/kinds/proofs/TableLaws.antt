@@ -1,21 +1,20 @@
 -- The code's rows are the layouts of `rules`, kind by kind, and the flat tables are the rows one kind after the other.
-use mathlib.Core.Path.{_≡_, refl, sym, _∙_, ap}
-use mathlib.Core.Bool.{Bool, true, false}
-use mathlib.Core.List.{List, [], _∷_, _++_, map}
+use mathlib.Core.Path.{_≡_, refl, _∙_}
+use mathlib.Core.Bool.{Bool, true}
+use mathlib.Core.List.{[], _∷_, map}
 use Prim.Native.Nat.{ℕ, zero, suc, _+_, _≤_, _<_}
 use native.Mathlib.Numerals.{add-one}
 use native.Mathlib.Omega.{arith}
 use lib.Dec.{lit≤}
-use lib.ListN.{length, getD, List·getD-map}
+use lib.ListN.{getD, List·getD-map}
 use lib.Seq.{slice, slice-cons}
 use Rattle.rules.specs.Tests.{all}
-use Rattle.rules.specs.Fields.{Field}
 use Rattle.rules.specs.Layouts.{at, tied, station, instrument, antenna, initials, state, anyText, metres, letterOrBlank, kept, titled, project, occupation, comment, measurement, receiver, aerial, point, heights, layouts}
-use Rattle.rules.proofs.Truth.{both}
+use Rattle.rules.proofs.Truth.{all-at}
 use Rattle.columns.specs.Types.{wayOf, setOf}
 use Rattle.kinds.specs.declared.tables.Item.the-variants as I
 use Rattle.kinds.specs.declared.tables.Bond.the-variants as B
-use Rattle.kinds.specs.Tables.{itemOf, bondOf, Row, row, fieldOf, rowLists, rows, rowAt, items, bonds, firsts, widths, starts}
+use Rattle.kinds.specs.Tables.{Row, row, fieldOf, rowLists, rows, rowAt, items, bonds, firsts, widths, starts}
 
 pub rows-are-layouts : map (map fieldOf) rowLists ≡ layouts
 unfolding fieldOf wayOf setOf layouts kept titled project occupation comment measurement receiver aerial point heights at tied station instrument antenna initials state anyText metres letterOrBlank
@@ -72,12 +71,6 @@ module _ (i : ℕ) where
   pub width-is : getD widths i 0 ≡ rowAt i .width
   unfolding rowAt
   width-is = List·getD-map (λ (r : Row). r .width) rows i (row I.Blank 0 0)
-
-all-at : (p : Row → Bool) (l : List Row) (d : Row) (i : ℕ) → all p l ≡ true → i < length l → p (getD l i d) ≡ true
-unfolding all
-all-at p [] d i h k = absurd (omega arith)
-all-at p (x ∷ xs) d zero h k = both h .0
-all-at p (x ∷ xs) d (suc i) h k = all-at p xs d i (both h .1) (omega arith)
 
 -- a test of every row, at row i
 pub row-passes : (p : Row → Bool) → all p rows ≡ true → (i : ℕ) → i < 67 → p (rowAt i) ≡ true

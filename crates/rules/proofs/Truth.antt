@@ -5,7 +5,7 @@ use mathlib.Core.Bool.{Bool, true, false, cond, _||_, false≢true}
 use mathlib.Core.List.{List, [], _∷_, _++_}
 use Prim.Native.Nat.{ℕ, zero, suc, _≤_, _<_}
 use native.Mathlib.Omega.{arith}
-use lib.ListN.{getD, replicate}
+use lib.ListN.{length, getD, replicate}
 use borrow.Author.Tests.{leb-true, leb-false, le-leb, lt-leb, eqb-true, eq-eqb, ne-eqb}
 use Rattle.rules.specs.Tests.{_&_, _≤?_, _=?_, within, all}
 
@@ -118,6 +118,26 @@ module _ {A : Type 0} where
   all-getD p [] d k h e = e
   all-getD p (x ∷ xs) d zero h e = both h .0
   all-getD p (x ∷ xs) d (suc k) h e = all-getD p xs d k (both h .1) e
+
+  -- within the list the default is not asked
+  pub all-at : (p : A → Bool) (l : List A) (d : A) (k : ℕ) → all p l ≡ true → k < length l → p (getD l k d) ≡ true
+  unfolding all
+  all-at p [] d k h i = absurd (omega arith)
+  all-at p (x ∷ xs) d zero h i = both h .0
+  all-at p (x ∷ xs) d (suc k) h i = all-at p xs d k (both h .1) (omega arith)
+
+-- every number below n, and a test that was tried on them all
+unfoldable pub under : ℕ → List ℕ
+under zero = []
+under (suc n) = n ∷ under n
+
+pub tried : (p : ℕ → Bool) (n k : ℕ) → all p (under n) ≡ true → k < n → p k ≡ true
+unfolding all under
+tried p zero k h l = absurd (omega arith)
+tried p (suc n) k h l = cases (suc k ≤? n) (λ f. tried p n k (both h .1) (to≤ f)) (λ f. rw (same f) (both h .0))
+  where
+    same : suc k ≤? n ≡ false → k ≡ n
+    same f = omega (arith, no≤ f)
 
 pub true-and : (b : Bool) → true & b ≡ b
 unfolding _&_
