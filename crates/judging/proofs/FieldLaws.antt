@@ -117,10 +117,10 @@ module _ (l : List ℕ) (c w : ℕ) (long : 80 ≤ length l) (p : 1 ≤ c) (q : 
   cut-length = ap length cut-is ∙ part-length
 
   module _ (e : Expect) (i : Item) (b : Bond) where
-    pub formed-is : (g : Bool) → g ≡ good (itemOf i (length cut)) cut → g ≡ good (itemOf i w) (part c w l)
+    formed-is : (g : Bool) → g ≡ good (itemOf i (length cut)) cut → g ≡ good (itemOf i w) (part c w l)
     formed-is g h = h ∙ rw (cut-length, cut-is)
 
-    pub agreed-is : (a : Bool) → a ≡ agreesIn e l b cut → a ≡ agreesIn e l b (part c w l)
+    agreed-is : (a : Bool) → a ≡ agreesIn e l b cut → a ≡ agreesIn e l b (part c w l)
     agreed-is a h = h ∙ ap (agreesIn e l b) cut-is
 
     spot-is : (o : ℕ) → o ≡ spot (itemOf i (length cut)) cut → o ≡ spot (itemOf i w) (part c w l)

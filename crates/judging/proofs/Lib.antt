@@ -4,4 +4,3 @@ pub mod CodeLaws  -- the kind of a code
 pub mod ByteLaws  -- the lowest column at fault
 pub mod FieldLaws  -- one field
 pub mod LineLaws  -- a whole line
-pub mod RecordLaws  -- a record as a whole

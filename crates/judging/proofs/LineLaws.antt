@@ -1,21 +1,21 @@
 -- A whole line: one law for each way through the functions.
 use mathlib.Core.Path.{_≡_, refl, sym, _∙_, ap}
-use mathlib.Core.Bool.{Bool, true, false, cond, _&&_, false≢true}
-use mathlib.Core.List.{List, [], _∷_, map}
-use Prim.Native.Nat.{ℕ, zero, suc, _+_, _-_, _≤_, _<_}
+use mathlib.Core.Bool.{Bool, true, false, _&&_, false≢true}
+use mathlib.Core.List.{List, map}
+use Prim.Native.Nat.{ℕ, _-_, _≤_, _<_}
 use native.Mathlib.Omega.{arith}
 use lib.Dec.{eqb}
-use lib.ListN.{length, take, drop, getD, length-take}
+use lib.ListN.{length, take, getD}
 use lib.Seq.{length-take-le}
 use Rattle.rules.specs.Tests.{all, within, _&_, _≤?_, _=?_}
 use Rattle.rules.specs.Characters.{isPrintable}
 use Rattle.rules.specs.Items.{number, good, spot}
-use Rattle.rules.specs.Fields.{Expect, anything, Verdict, ok, fault, check, _⨾_, isOk, read, judge}
+use Rattle.rules.specs.Fields.{Expect, Verdict, ok, fault, check, _⨾_, isOk, read, judge}
 use Rattle.rules.specs.Layouts.{layouts, kept, layout}
 use Rattle.rules.specs.Kinds.{kindOf}
 use Rattle.rules.specs.Records.{sequence, bytes, codeAt, knownCode, entries, numbered, readLine}
 use Rattle.rules.specs.Chapter4.{chapter4}
-use Rattle.rules.proofs.Truth.{both, and, to≤, of≤, of>, to≡, true-and}
+use Rattle.rules.proofs.Truth.{both, to≤, of≤, of>, to≡, true-and}
 use Rattle.rules.proofs.RecordLaws.{bytes-length}
 use Rattle.rules.proofs.Conforming.{bytes-of}
 use Rattle.kinds.specs.declared.Judged.{Judged}
@@ -23,7 +23,7 @@ use Rattle.kinds.specs.declared.Expect.the-variants as X
 use Rattle.kinds.specs.Values.{judgedOf, expectOf}
 use Rattle.kinds.proofs.ValueLaws.{good-is}
 use Rattle.judging.specs.Judging.{clean}
-use Rattle.judging.proofs.RowLaws.{good-then, bad-then}
+use Rattle.judging.proofs.RowLaws.{bad-then}
 use Rattle.judging.proofs.CodeLaws.{and-is}
 
 module _ (l : List ℕ) where
@@ -68,11 +68,8 @@ module _ (l : List ℕ) where
   unfolding readLine
   alone-bytes j p n c q = sym (bad-then (bytes 80 1 l) _ n c (sym p ∙ q))
 
-  pub bytes-fine : (j : Judged) → j ≡ judgedOf (bytes 80 1 l) → j ≡ Judged.Good → isOk (bytes 80 1 l) ≡ true
-  bytes-fine j p q = ap isOk (good-is (bytes 80 1 l) (sym p ∙ q)) ∙ (unfold isOk in refl)
-
   pub alone-long : (j : Judged) → j ≡ judgedOf (bytes 80 1 l) → j ≡ Judged.Good → 80 < length l
-  alone-long j p q = bytes-length 1 80 l (bytes-fine j p q)
+  alone-long j p q = bytes-length 1 80 l (ap isOk (good-is (bytes 80 1 l) (sym p ∙ q)) ∙ (unfold isOk in refl))
 
   module _ (j : Judged) (p : j ≡ judgedOf (bytes 80 1 l)) (q : j ≡ Judged.Good) (k : ℕ) (z : k ≡ kindOf (codeAt l)) where
     pub alone-code : 13 < k → Judged.Bad 6 7 ≡ judgedOf (readLine chapter4 l)

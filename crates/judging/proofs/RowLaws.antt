@@ -1,6 +1,6 @@
 -- Judging row by row is the judge of `rules`, for every kind; and the facts of the tables that the loop needs.
 use mathlib.Core.Path.{_≡_, refl, sym, _∙_, ap}
-use mathlib.Core.Bool.{Bool, true, false}
+use mathlib.Core.Bool.{Bool, true, false, false≢true}
 use mathlib.Core.List.{List, [], _∷_, map}
 use Prim.Native.Nat.{ℕ, _+_, _-_, _*_, _≤_, _<_}
 use native.Mathlib.Omega.{arith}
@@ -11,7 +11,7 @@ use Rattle.rules.specs.Tests.{all, _&_, _≤?_, _=?_}
 use Rattle.rules.specs.Characters.{isBlank, letter, digit, space, only, _or_}
 use Rattle.rules.specs.Digits.{val}
 use Rattle.rules.specs.Items.{Test, each, number, height, month, word, columns, width, valueOf, good, spot}
-use Rattle.rules.specs.Fields.{Expect, Verdict, ok, check, _⨾_, columnsOf, read, valueAt, numOf, isMissing, agreesWith, agrees, judgeEach, judge}
+use Rattle.rules.specs.Fields.{Expect, Verdict, ok, fault, isOk, check, _⨾_, columnsOf, read, valueAt, numOf, isMissing, agreesWith, agrees, judgeEach, judge}
 use Rattle.rules.specs.Layouts.{at, tied, station, instrument, antenna, initials, state, anyText, metres, letterOrBlank, kept, titled, project, occupation, comment, measurement, receiver, aerial, point, heights, layouts}
 use Rattle.rules.proofs.Truth.{both, to≤, of≤, to≡, cases}
 use Rattle.rules.proofs.FieldLaws.{⨾-assoc}
@@ -40,6 +40,11 @@ bad-then u v n c e = rw (bad-is u n c e) (unfold judgedOf in refl)
 pub good-then : (u v : Verdict) → judgedOf u ≡ Judged.Good → u ⨾ v ≡ v
 unfolding _⨾_
 good-then u v e = rw (good-is u e)
+
+pub ok-good : (u : Verdict) → isOk u ≡ true → Judged.Good ≡ judgedOf u
+unfolding judgedOf isOk
+ok-good ok h = refl
+ok-good (fault n c) h = absurd (false≢true h)
 
 -- ---- what is compared: the columns tell the values
 few : (n : ℕ) (l : List ℕ) → n ≤ 16 → length (take n l) ≤? 16 ≡ true

@@ -1,7 +1,7 @@
 -- The judge of a line's fields as the code goes about it: row by row of the tables, with the columns that a field is compared with at hand.
-use mathlib.Core.Bool.{Bool, true, false, cond, _&&_}
+use mathlib.Core.Bool.{Bool, true, cond}
 use mathlib.Core.List.{List, [], _∷_}
-use Prim.Native.Nat.{ℕ, zero, suc, _+_, _-_}
+use Prim.Native.Nat.{ℕ, _+_, _-_}
 use lib.ListN.{length, take, drop, getD}
 use Rattle.rules.specs.Tests.{all, _&_, _≤?_, _=?_}
 use Rattle.rules.specs.Characters.{isBlank, isPrintable}
@@ -12,7 +12,7 @@ use Rattle.kinds.specs.declared.tables.Item as code
 use Rattle.kinds.specs.declared.tables.Bond.{Bond}
 use Rattle.kinds.specs.declared.tables.Bond.the-variants as B
 use Rattle.kinds.specs.declared.tables.Item.the-variants as I
-use Rattle.kinds.specs.Tables.{itemOf, Row, rowLists, items, bonds, firsts, widths}
+use Rattle.kinds.specs.Tables.{itemOf, Row, items, bonds, firsts, widths}
 
 -- w columns of a line from column c on
 abbrev pub part : ℕ → ℕ → List ℕ → List ℕ
@@ -55,25 +55,6 @@ judgeRowAt e l i = judgeRow e l (getD items i I.Blank) (getD bonds i B.Free) (ge
 unfoldable pub judgeRows : Expect → List ℕ → List Row → Verdict
 judgeRows e l [] = ok
 judgeRows e l (r ∷ rs) = judgeRow e l (r .item) (r .bond) (r .first) (r .width) ⨾ judgeRows e l rs
-
--- ---- rows as tests, none named: all rows pass, after what went before
-unfoldable pub tied : Bool → Expect → List ℕ → Bond → List ℕ → Bool
-tied good e l B.Free bs = good
-tied good e l B.Expected bs = good && agreesIn e l B.Expected bs
-tied good e l B.NotBegan bs = good && agreesIn e l B.NotBegan bs
-tied good e l B.WithOrthometric bs = good && agreesIn e l B.WithOrthometric bs
-tied good e l B.WithGeoid bs = good && agreesIn e l B.WithGeoid bs
-tied good e l B.WithEllipsoid bs = good && agreesIn e l B.WithEllipsoid bs
-
-unfoldable pub passFrom : Bool → Expect → List ℕ → List Row → Bool
-passFrom before e l [] = before
-passFrom before e l (r ∷ rs) =
-    let bs = part (r .first) (r .width) l in
-    passFrom (tied (before && good (itemOf (r .item) (r .width)) bs) e l (r .bond) bs) e l rs
-
--- rows i to j of a kind, counted from 0
-abbrev pub rowsOf : ℕ → ℕ → ℕ → List Row
-rowsOf k i j = take (j - i) (drop i (getD rowLists k []))
 
 -- ---- 80 printable bytes, and a line feed behind them
 unfoldable pub clean : List ℕ → Bool

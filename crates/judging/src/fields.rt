@@ -1,5 +1,4 @@
 // The fields of a line from the left, each of its kind and range (9) and in agreement with earlier ones (10).
-use crate::records::is_good;
 use columns::Set;
 use columns::Way;
 use columns::angles::angle_spot;
@@ -30,15 +29,14 @@ ghost use mathlib.Core.List.{map};
 ghost use Prim.Native.Nat.{_+_, _≤_, _<_};
 ghost use lib.ListN.{length, getD};
 ghost use Rattle.rules.specs.Items.{good, spot};
-ghost use Rattle.rules.specs.Fields.{isOk, read, judge, meets, sameTruth};
+ghost use Rattle.rules.specs.Fields.{read, judge, meets, sameTruth};
 ghost use Rattle.rules.specs.Layouts.{layouts, kept};
-ghost use Rattle.rules.specs.Records.{bytes};
 ghost use Rattle.kinds.specs.Tables.{itemOf};
 ghost use Rattle.kinds.specs.Values.{judgedOf, expectOf};
 ghost use Rattle.judging.specs.Judging.{agreesIn, judgeRow, judgeRowAt, sized};
 
 // Of its kind and range.
-pub(crate) fn good_item(item: Item, part: &[u8]) -> bool
+fn good_item(item: Item, part: &[u8]) -> bool
     requires { ⌜ sized (itemOf item (length (now part))) ≡ true ⌝ }
     ensures { λ r. ⌜ r ≡ good (itemOf item (length (now (part .entry)))) (now (part .entry)) ⌝ }
 {
@@ -103,7 +101,7 @@ fn long(n: u32) -> u64
 }
 
 // What the records before ask of a number.
-fn is_met(e: Expect, n: u64) -> bool
+pub fn is_met(e: Expect, n: u64) -> bool
     ensures { λ r. ⌜ r ≡ meets (expectOf e) n ⌝ }
 {
     match e {
@@ -113,14 +111,14 @@ fn is_met(e: Expect, n: u64) -> bool
     }
 }
 
-fn same_truth(a: bool, b: bool) -> bool
+pub fn same_truth(a: bool, b: bool) -> bool
     ensures { λ r. ⌜ r ≡ sameTruth a b ⌝ }
 {
     (a & b) | (!a & !b)
 }
 
 // In agreement with what stands before it in the line, and with what went before in the file.
-pub(crate) fn agrees_item(e: Expect, line: &[u8], bond: Bond, part: &[u8]) -> bool
+fn agrees_item(e: Expect, line: &[u8], bond: Bond, part: &[u8]) -> bool
     requires { ⌜ 80 ≤ length (now line) ⌝ }
     ensures { λ r. ⌜ r ≡ agreesIn (expectOf e) (now (line .entry)) bond (now (part .entry)) ⌝ }
 {
@@ -160,8 +158,8 @@ fn judge_at(e: Expect, line: &[u8], i: usize) -> Judged
     judge_row(e, line, item_at(i), bond_at(i), first, width)
 }
 
-// Row by row of the tables: the first fault.
-fn judge_rows(line: &[u8], kind: usize, e: Expect) -> Judged
+// The fields from column 11 on of a line of a kind, row by row of the tables: the first fault.
+pub(crate) fn judge_fields(line: &[u8], kind: usize, e: Expect) -> Judged
     requires { ⌜ (80 ≤ length (now line)) × (kind < 14) ⌝ }
     ensures { λ r. ⌜ r ≡ judgedOf (judge (expectOf e) (map (read (now (line .entry))) (getD layouts kind kept))) ⌝ }
 {
@@ -175,15 +173,4 @@ fn judge_rows(line: &[u8], kind: usize, e: Expect) -> Judged
         i += 1;
     }
     Judged::Good
-}
-
-// The fields from column 11 on of a line of a kind. Hardly a record has a fault, so the kinds that come often are first tested as a whole.
-pub fn judge_fields(line: &[u8], kind: usize, e: Expect) -> Judged
-    requires { ⌜ (80 ≤ length (now line)) × (kind < 14) × (isOk (bytes 80 1 (now line)) ≡ true) ⌝ }
-    ensures { λ r. ⌜ r ≡ judgedOf (judge (expectOf e) (map (read (now (line .entry))) (getD layouts kind kept))) ⌝ }
-{
-    if is_good(line, kind, e) {
-        return Judged::Good;
-    }
-    judge_rows(line, kind, e)
 }

@@ -3,4 +3,3 @@ pub mod bytes;
 pub mod codes;
 pub mod fields;
 pub mod lines;
-pub mod records;

@@ -12,7 +12,7 @@ ghost use mathlib.Core.List.{map};
 ghost use Prim.Native.Nat.{_≤_, _<_};
 ghost use lib.ListN.{length, getD, take};
 ghost use Rattle.rules.specs.Items.{good};
-ghost use Rattle.rules.specs.Fields.{isOk, read, judge, _⨾_};
+ghost use Rattle.rules.specs.Fields.{read, judge, _⨾_};
 ghost use Rattle.rules.specs.Layouts.{layouts, kept};
 ghost use Rattle.rules.specs.Records.{sequence, bytes, numbered, readLine};
 ghost use Rattle.rules.specs.Chapter4.{chapter4};
@@ -47,9 +47,9 @@ fn has_number(line: &[u8]) -> bool
     good_number(&line[0..6], 1, 999_999, true)
 }
 
-// Columns 1-6, then the fields of the kind, in a line whose bytes are good.
+// Columns 1-6, then the fields of the kind.
 pub fn judge_rest(line: &[u8], kind: usize, e: Expect) -> Judged
-    requires { ⌜ (80 ≤ length (now line)) × (kind < 14) × (isOk (bytes 80 1 (now line)) ≡ true) ⌝ }
+    requires { ⌜ (80 ≤ length (now line)) × (kind < 14) ⌝ }
     ensures { λ r. ⌜ r ≡ judgedOf (numbered chapter4 (now (line .entry)) ⨾ judge (expectOf e) (map (read (now (line .entry))) (getD layouts kind kept))) ⌝ }
 {
     if has_number(line) {

@@ -27,7 +27,7 @@ use Rattle.rules.proofs.ReferenceLaws.{references-iff}
 use Rattle.rules.proofs.Chapter4Laws.{allBelow, below-holds, order-is-the-table}
 
 -- ---- bytes
-pub bytes-parts : (n c : ℕ) (l : List ℕ) → isOk (bytes n c l) ≡ true → (all isPrintable (take n l) ≡ true) × (getD l n 0 ≡ 10)
+bytes-parts : (n c : ℕ) (l : List ℕ) → isOk (bytes n c l) ≡ true → (all isPrintable (take n l) ≡ true) × (getD l n 0 ≡ 10)
 unfolding bytes isOk all
 bytes-parts zero c [] h = absurd (false≢true h)
 bytes-parts zero c (b ∷ bs) h = (refl, to≡ (sym (isOk-check (b =? 10) 5 c) ∙ h))

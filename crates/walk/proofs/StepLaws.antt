@@ -1,27 +1,31 @@
 -- One record: one law for each way through its judge, and what is kept after it is what the rules keep.
-use mathlib.Core.Path.{_≡_, refl, sym, _∙_, ap, ap₂, subst}
-use mathlib.Core.Bool.{Bool, true, false, cond, not, false≢true}
-use mathlib.Core.List.{List, [], _∷_, map}
-use Prim.Native.Nat.{ℕ, zero, suc, _+_, _≤_, _<_}
+use mathlib.Core.Path.{_≡_, refl, sym, _∙_, ap}
+use mathlib.Core.Bool.{Bool, true, false, not, _&&_, false≢true}
+use mathlib.Core.List.{List, map}
+use Prim.Native.Nat.{ℕ, _+_, _≤_, _<_}
 use native.Mathlib.Omega.{arith}
-use lib.ListN.{length, getD}
-use Rattle.rules.specs.Tests.{_&_, _≤?_, _=?_}
-use Rattle.rules.specs.Fields.{Verdict, ok, fault, check, _⨾_, isOk, read, judge}
-use Rattle.rules.specs.Records.{bytes, codeAt, knownCode, entries, numbered, judgeLine, meaning}
+use lib.Dec.{leb, eqb}
+use lib.ListN.{length, getD, take}
+use borrow.Author.Tests.{leb-true}
+use Rattle.rules.specs.Tests.{_&_, _≤?_}
+use Rattle.rules.specs.Fields.{check, _⨾_, isOk, read, judge}
+use Rattle.rules.specs.Items.{good, spot}
+use Rattle.rules.specs.Records.{sequence, bytes, codeAt, knownCode, entries, numbered, judgeLine}
 use Rattle.rules.specs.Kinds.{kindOf}
 use Rattle.rules.specs.Layouts.{layouts, kept, layout}
 use Rattle.rules.specs.Order.{goto, order}
 use Rattle.rules.specs.Chapter4.{mayStand, expectation, chapter4}
-use Rattle.rules.proofs.Truth.{both, and, to≤, of≤, of>, no≤, of≡, of≢, to≡, true-and, above-0}
-use Rattle.rules.proofs.RecordLaws.{bytes-length}
+use Rattle.rules.proofs.Truth.{and, of≤, of>, of≢, true-and, above-0}
+use Rattle.rules.proofs.FieldLaws.{isOk-⨾, isOk-check}
 use Rattle.kinds.specs.declared.Judged.{Judged}
 use Rattle.kinds.specs.declared.Expect.{Expect}
 use Rattle.kinds.specs.Values.{judgedOf, expectOf}
 use Rattle.kinds.proofs.ValueLaws.{good-is, bad-is}
-use Rattle.judging.proofs.RowLaws.{good-then, bad-then}
-use Rattle.judging.proofs.LineLaws.{bytes-fine}
+use Rattle.judging.proofs.RowLaws.{good-then, bad-then, ok-good}
+use Rattle.judging.proofs.LineLaws.{alone-long}
+use Rattle.quick.specs.Rest.{Fit}
+use Rattle.quick.proofs.ClassLaws.{both-true}
 use Rattle.walk.specs.declared.kept.Kept.{Kept}
-use Rattle.walk.specs.declared.records.Stepped.{Stepped}
 use Rattle.walk.specs.declared.records.Stepped.the-variants.{Next, Fault}
 use Rattle.walk.specs.Keeping.{lookIn, pastOf, expectIn, foreign, movedOf}
 use Rattle.walk.specs.Words.{leadIn}
@@ -42,11 +46,8 @@ module _ (s : Kept) (r : ℕ) (l : List ℕ) (k : ℕ) (e : k ≡ kindOf (codeAt
   placed-bytes h b p m c q = rw (in-time h) (unfold judgeLine in sym (bad-then (bytes 80 1 l) _ m c (sym p ∙ q)))
 
   module _ (h : r ≤ 99_999) (b : Judged) (p : b ≡ judgedOf (bytes 80 1 l)) (q : b ≡ Judged.Good) where
-    pub placed-fine : isOk (bytes 80 1 l) ≡ true
-    placed-fine = bytes-fine l b p q
-
     pub placed-long : 80 ≤ length l
-    placed-long = let t : 80 < length l = bytes-length 1 80 l placed-fine in omega arith
+    placed-long = omega (arith, alone-long l b p q)
 
     -- after the bytes
     coded : check (r ≤? 99_999) 2 1 ⨾ judgeLine chapter4 (pastOf s) l
@@ -79,6 +80,26 @@ module _ (s : Kept) (r : ℕ) (l : List ℕ) (k : ℕ) (e : k ≡ kindOf (codeAt
         pub placed-rest : o ≡ false → (d : Expect) → d ≡ expectIn s k → {v : Judged} → v ≡ judgedOf (numbered chapter4 l ⨾ judge (expectOf d) (map (read l) (getD layouts k kept)))
             → v ≡ judgedOf (check (r ≤? 99_999) 2 1 ⨾ judgeLine chapter4 (pastOf s) l)
         placed-rest w d f g = g ∙ sym (rw stood (unfold check _⨾_ in rw (come, w, ← expect-is s k (codeAt l) e, f)))
+
+  -- ---- the quick test: what fits has no fault
+  pub placed-quick : (d : Expect) → d ≡ expectIn s k → (t : Bool) → (t ≡ true → Fit l k (expectOf d)) → (not (eqb next 0) && leb r 99_999 && t) ≡ true
+      → Judged.Good ≡ judgedOf (check (r ≤? 99_999) 2 1 ⨾ judgeLine chapter4 (pastOf s) l)
+  placed-quick d f t g q =
+      let x = both-true (not (eqb next 0) && leb r 99_999) t q in
+      let y = both-true (not (eqb next 0)) (leb r 99_999) (x .0) in
+      let F = g (x .1) in
+      let fine = isOk-⨾ (numbered chapter4 l) (judge (expectOf d) (map (read l) (getD layouts k kept))) ∙ and (numbered-ok (F .number)) (F .fields) in
+      placed-rest (leb-true r 99_999 (y .1)) Judged.Good (ok-good (bytes 80 1 l) (F .fine)) refl (F .high) (comes (y .0)) (getD l 7 0) refl (getD l 8 0) refl
+      (foreign s k (getD l 7 0) (getD l 8 0)) refl (at-home (F .low)) d f (ok-good (numbered chapter4 l ⨾ judge (expectOf d) (map (read l) (getD layouts k kept))) fine)
+    where
+      comes : not (eqb next 0) ≡ true → next ≡ 0 → ⊥
+      comes h z = false≢true (rw z at h)
+
+      numbered-ok : good sequence (take 6 l) ≡ true → isOk (numbered chapter4 l) ≡ true
+      numbered-ok e = unfold numbered in isOk-check (good sequence (take 6 l)) 9 (1 + spot sequence (take 6 l)) ∙ e
+
+      at-home : 1 ≤ k → foreign s k (getD l 7 0) (getD l 8 0) ≡ false
+      at-home e = unfold foreign in rw (of≢ {m = k} {n = 0} (λ z. omega arith))
 
 -- ---- the step
 pub next-is : (rows : List (List ℕ)) → rows ≡ order → (place k next : ℕ) → next ≡ lookIn rows place k → next ≡ goto place k

@@ -1,9 +1,8 @@
 // What is kept of the records before, and what it asks of the next.
 use kinds::Expect;
 ghost use mathlib.Core.Path.{_≡_};
-ghost use mathlib.Core.Bool.{Bool, cond};
+ghost use mathlib.Core.Bool.{cond};
 ghost use Rattle.rules.specs.Tests.{_=?_};
-ghost use Rattle.kinds.specs.Values.{expectOf};
 ghost use Rattle.walk.specs.Keeping.{latestIn, expectIn, foreign, movedOf};
 
 // The place in the order of records, the two characters of the first job code, the station of the group that is open, and the numbers of

@@ -11,6 +11,7 @@ use crate::records::walk_records;
 use crate::references::refer_records;
 use crate::words::clear;
 use kinds::Checked;
+use quick::tables::CLASSES;
 ghost use mathlib.Core.Path.{_≡_};
 ghost use lib.ListN.{length};
 ghost use Rattle.rules.specs.Calls.{answer, checkAnswer, checkTable};
@@ -46,7 +47,7 @@ fn judge_file(file: &[u8], words: &mut [u32]) -> Checked
     ensures words { λ _. ⌜ now (words .exit) ≡ tableAfter (now (file .entry)) ⌝ }
 {
     clear(words);
-    let walked = walk_records(file, words, &ORDER);
+    let walked = walk_records(file, words, &ORDER, &CLASSES);
     let found = refer_walked(file, words, walked);
     settle(words, found);
     found

@@ -13,11 +13,10 @@ use judging::lines::judge_rest;
 use kinds::Checked;
 use kinds::Fault;
 use kinds::Judged;
+use quick::fits;
 use reading::lines::count_begun;
 use reading::lines::line;
 ghost use mathlib.Core.Path.{_≡_};
-ghost use mathlib.Core.List.{List};
-ghost use Prim.Native.Nat.{ℕ};
 ghost use Rattle.rules.specs.Tests.{_≤?_};
 ghost use Rattle.rules.specs.Fields.{check, _⨾_};
 ghost use Rattle.rules.specs.Records.{codeAt, judgeLine};
@@ -25,6 +24,7 @@ ghost use Rattle.rules.specs.Kinds.{kindOf};
 ghost use Rattle.rules.specs.Order.{order, goto};
 ghost use Rattle.rules.specs.Chapter4.{chapter4};
 ghost use Rattle.kinds.specs.Values.{judgedOf};
+ghost use Rattle.quick.specs.Rows.{classTable};
 ghost use Rattle.walk.specs.Keeping.{pastOf};
 ghost use Rattle.walk.specs.Words.{noWords};
 ghost use Rattle.walk.specs.Walking.{refusal, stepOf, Walked};
@@ -72,12 +72,37 @@ fn judge_placed(s: Kept, next: usize, r: usize, line: &[u8], kind: usize) -> Jud
     judge_rest(line, kind, expect(s, kind))
 }
 
-fn step(rows: &[[u8; 14]; 17], s: Kept, r: usize, line: &[u8], kind: usize) -> Stepped
-    requires { ⌜ (kind ≡ kindOf (codeAt (now line))) × (now rows ≡ order) ⌝ }
+// Hardly a record has a fault, so each is first tested as a whole.
+fn judge_quickly(
+    s: Kept,
+    next: usize,
+    r: usize,
+    line: &[u8],
+    kind: usize,
+    classes: &[[[u8; 80]; 5]; 14],
+) -> Judged
+    requires { ⌜ (kind ≡ kindOf (codeAt (now line))) × (next ≡ goto (s .place) kind) × (now classes ≡ classTable) ⌝ }
+    ensures { λ v. ⌜ v ≡ judgedOf (check (r ≤? 99_999) 2 1 ⨾ judgeLine chapter4 (pastOf s) (now (line .entry))) ⌝ }
+{
+    if (next != 0) & (r <= 99_999) & fits(line, kind, expect(s, kind), classes) {
+        return Judged::Good;
+    }
+    judge_placed(s, next, r, line, kind)
+}
+
+fn step(
+    rows: &[[u8; 14]; 17],
+    s: Kept,
+    r: usize,
+    line: &[u8],
+    kind: usize,
+    classes: &[[[u8; 80]; 5]; 14],
+) -> Stepped
+    requires { ⌜ (kind ≡ kindOf (codeAt (now line))) × (now rows ≡ order) × (now classes ≡ classTable) ⌝ }
     ensures { λ a. ⌜ a ≡ stepOf s r (now (line .entry)) ⌝ }
 {
     let next = look_up(rows, s.place, kind);
-    match judge_placed(s, next, r, line, kind) {
+    match judge_quickly(s, next, r, line, kind, classes) {
         Judged::Bad(n, c) => Stepped::Fault(n, c),
         Judged::Good => Stepped::Next(moved(
             s,
@@ -91,8 +116,13 @@ fn step(rows: &[[u8; 14]; 17], s: Kept, r: usize, line: &[u8], kind: usize) -> S
 }
 
 // The first fault, or the counts; each good record that defines a number is put into the table.
-pub(crate) fn walk_records(file: &[u8], words: &mut [u32], rows: &[[u8; 14]; 17]) -> Checked
-    requires { ⌜ (now words ≡ noWords) × (now rows ≡ order) ⌝ }
+pub(crate) fn walk_records(
+    file: &[u8],
+    words: &mut [u32],
+    rows: &[[u8; 14]; 17],
+    classes: &[[[u8; 80]; 5]; 14],
+) -> Checked
+    requires { ⌜ (now words ≡ noWords) × (now rows ≡ order) × (now classes ≡ classTable) ⌝ }
     ensures { λ v. ⌜ Walked (now (file .entry)) v (now (words .exit)) ⌝ }
 {
     let n = count_begun(file);
@@ -110,7 +140,7 @@ pub(crate) fn walk_records(file: &[u8], words: &mut [u32], rows: &[[u8; 14]; 17]
     while i < n {
         let l = line(file, i);
         let kind = kind_at(l);
-        match step(rows, s, i + 1, l, kind) {
+        match step(rows, s, i + 1, l, kind, classes) {
             Stepped::Fault(number, column) => {
                 return refused(number, i + 1, column);
             }

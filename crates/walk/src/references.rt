@@ -10,9 +10,7 @@ use reading::lines::count_begun;
 use reading::lines::line;
 use reading::values::number_in;
 ghost use mathlib.Core.Path.{_≡_};
-ghost use lib.ListN.{length};
-ghost use Prim.Native.Nat.{_≤_};
-ghost use Rattle.kinds.specs.Values.{judgedOf, checkedOf};
+ghost use Rattle.kinds.specs.Values.{judgedOf};
 ghost use Rattle.walk.specs.References.{firstIn, namedIn, refIn, Referable, referredOf};
 
 fn size(n: u32) -> usize

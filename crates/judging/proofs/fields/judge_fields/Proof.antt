@@ -1,27 +1,38 @@
-use Rattle.judging.proofs.RecordLaws.{good-judged}
 use borrow.Author.Needs.{needs}
+use native.Mathlib.Omega.{arith}
+use Prim.Native.Nat.{_-_}
+use Rattle.kinds.specs.Values.{expectOf}
+use Rattle.judging.proofs.RowLaws.{Walked, walk-from, below, walk-stop, walk-on, walk-done}
 use Rattle.judging.proofs.fields.judge_fields.Statement.{statement}
 use Rattle.judging.proofs.fields.judge_fields.Tie as tie
-use Rattle.judging.proofs.fields.judge_fields.Reads as reads
-use Rattle.judging.proofs.fields.judge_fields.Lts as lts
-use Rattle.judging.proofs.fields.judge_rows.Reads as judge-rows-reads
-use Rattle.judging.proofs.records.is_good.Reads as is-good-reads
 
--- src/fields.rt:184:8
-is-good-requires : tie.Need-is-good-requires
-is-good-requires c κs = search needs
+abbrev Inv-loop : tie.InvT-loop
+Inv-loop line kind e end i₀ i = Walked (expectOf e) line kind end i
 
--- src/fields.rt:185:9
-returns : tie.Need-returns
-returns c = good-judged _ (c .before .is-good .result) (c .before .is-good .ensures) (c .if1 .taken)
-
--- src/fields.rt:187:5
-judge-rows-requires : tie.Need-judge-rows-requires
-judge-rows-requires c κs = search needs
-
--- src/fields.rt:180:1
-returns-2 : tie.Need-returns-2
-returns-2 c = search needs
+abbrev μ-loop : tie.MeasureT-loop
+μ-loop line kind e end i₀ i = end - i
 
 pub judge-fields-spec : {M : Type 1} → statement M
-judge-fields-spec = tie.close (tie.spec is-good-requires returns judge-rows-requires returns-2)
+judge-fields-spec =
+    tie.close
+    (tie.spec
+    Inv-loop
+    μ-loop
+    (λ c. search needs)
+    (λ c κs. search needs)
+    (λ c κs. search needs)
+    (λ c κs. search needs)
+    (λ c κs. search needs)
+    (λ c. let e = c .before .before .before in
+    let s = e .before .before in
+    walk-from (expectOf (s .args .e)) (s .args .line .now) (s .args .kind) (s .pre .1)
+    (e .start-at .result) (e .start-at .ensures) (c .before .before .wide .result) (c .before .before .wide .ensures)
+    (c .before .start-at2 .result) (c .before .start-at2 .ensures) (c .wide2 .result) (c .wide2 .ensures))
+    (λ c κs. (search needs, below (c .before .loop .inv) (c .loop-test .taken)))
+    (λ c. search needs)
+    (λ c. search (walk-stop, needs))
+    (λ c. search needs)
+    (λ c. search needs)
+    (λ c. search needs)
+    (λ c. search (walk-on, needs))
+    (λ c. search (walk-done, needs)))

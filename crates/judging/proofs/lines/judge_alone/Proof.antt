@@ -1,6 +1,6 @@
 use borrow.Author.Needs.{needs}
 use native.Mathlib.Omega.{arith}
-use Rattle.judging.proofs.LineLaws.{bytes-fine, alone-bytes, alone-long, alone-code, alone-fields}
+use Rattle.judging.proofs.LineLaws.{alone-bytes, alone-long, alone-code, alone-fields}
 use Rattle.judging.proofs.lines.judge_alone.Statement.{statement}
 use Rattle.judging.proofs.lines.judge_alone.Tie as tie
 
@@ -33,11 +33,8 @@ judge-rest-requires c κs =
     let told = c .before .before in
     let judged = told .before .before in
     let l = judged .before .before .args .line .now in
-    let j = judged .judge-bytes in (
-      omega (arith, alone-long l (j .result) (j .ensures) (told .enum-told .given .1)),
-      omega arith,
-      bytes-fine l (j .result) (j .ensures) (told .enum-told .given .1),
-    )
+    let j = judged .judge-bytes in
+    (omega (arith, alone-long l (j .result) (j .ensures) (told .enum-told .given .1)), omega arith)
 
 -- src/lines.rt:62:1
 returns-3 : tie.Need-returns-3

@@ -1,4 +1,4 @@
-use Rattle.walk.proofs.StepLaws.{placed-late, placed-bytes, placed-long, placed-fine, placed-code, placed-order, placed-foreign, placed-rest}
+use Rattle.walk.proofs.StepLaws.{placed-late, placed-bytes, placed-long, placed-code, placed-order, placed-foreign, placed-rest}
 use borrow.Author.Needs.{needs}
 use Rattle.walk.proofs.records.judge_placed.Statement.{statement}
 use Rattle.walk.proofs.records.judge_placed.Tie as tie
@@ -59,7 +59,7 @@ expect-requires c κs = search needs
 
 -- src/records.rt:72:5
 judge-rest-requires : tie.Need-judge-rest-requires
-judge-rest-requires c κs = search (placed-long, placed-fine, needs)
+judge-rest-requires c κs = search (placed-long, needs)
 
 -- src/records.rt:52:1
 returns-6 : tie.Need-returns-6

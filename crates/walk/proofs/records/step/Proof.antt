@@ -7,7 +7,7 @@ use Rattle.walk.proofs.records.step.Lts as lts
 use Rattle.columns.proofs.parts.byte_at.Reads as byte-at-reads
 use Rattle.walk.proofs.kept.moved.Reads as moved-reads
 use Rattle.walk.proofs.order.look_up.Reads as look-up-reads
-use Rattle.walk.proofs.records.judge_placed.Reads as judge-placed-reads
+use Rattle.walk.proofs.records.judge_quickly.Reads as judge-quickly-reads
 use Rattle.walk.proofs.words.leading.Reads as leading-reads
 
 -- src/records.rt:79:9
@@ -15,8 +15,8 @@ look-up-requires : tie.Need-look-up-requires
 look-up-requires c κs = search needs
 
 -- src/records.rt:80:11
-judge-placed-requires : tie.Need-judge-placed-requires
-judge-placed-requires c κs = search (next-is, needs)
+judge-quickly-requires : tie.Need-judge-quickly-requires
+judge-quickly-requires c κs = search (next-is, needs)
 
 -- src/records.rt:81:21
 enum-known-n : tie.Need-enum-known-n
@@ -55,7 +55,7 @@ step-spec =
     tie.close
     (tie.spec
     look-up-requires
-    judge-placed-requires
+    judge-quickly-requires
     enum-known-n
     enum-told
     byte-at-requires

@@ -16,10 +16,10 @@ use Rattle.walk.proofs.records.step.Reads as step-reads
 use Rattle.walk.proofs.words.mark_record.Reads as mark-record-reads
 
 abbrev Inv-loop : tie.InvT-loop
-Inv-loop file words₀ rows n s₀ counts₀ i₀ words s counts i = (length words ≡ length words₀) × Going file n words s counts i
+Inv-loop file words₀ rows classes n s₀ counts₀ i₀ words s counts i = (length words ≡ length words₀) × Going file n words s counts i
 
 abbrev μ-loop : tie.MeasureT-loop
-μ-loop file words₀ rows n s₀ counts₀ i₀ words s counts i = n - i
+μ-loop file words₀ rows classes n s₀ counts₀ i₀ words s counts i = n - i
 
 -- src/records.rt:98:9
 count-begun-requires : tie.Need-count-begun-requires Inv-loop μ-loop
