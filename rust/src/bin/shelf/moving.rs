@@ -353,8 +353,8 @@ fn not_moved(row: &Row, out: &mut dyn Write) -> io::Result<()> {
     }
 }
 
-/// What was moved is said even where no ledger says it, on the error output
-/// too.
+/// What was moved, and what was not, is said even where no ledger says it;
+/// what was moved, on the error output too.
 fn without_ledger(rows: &Rows, out: &mut dyn Write) -> io::Result<()> {
     let moved: Vec<String> = rows.moved().map(|row| names::shown(&row.name)).collect();
     let all = rows.0.len();
@@ -366,6 +366,7 @@ fn without_ledger(rows: &Rows, out: &mut dyn Write) -> io::Result<()> {
     for name in &moved {
         Trouble::new(format!("moved: {name}")).tell();
     }
+    rows.0.iter().try_for_each(|row| not_moved(row, out))?;
     writeln!(out, "{what}")?;
     moved
         .iter()

@@ -189,7 +189,8 @@ impl<'a> Places<'a> {
     fn finish_folder(&mut self, name: &Path, parts: &BTreeSet<&OsStr>) -> Result<(), Trouble> {
         let kept = self.old.folders.get(name).copied();
         let is_given = name.as_os_str().is_empty() && self.ground.missing.is_empty();
-        let Some(folder) = self.folder(name)? else {
+        // One that is gone is found out by the last look.
+        let Ok(Some(folder)) = self.folder(name) else {
             return Ok(());
         };
         let on = || Trouble::on(folder.path());

@@ -4,7 +4,7 @@ use crate::disk::{self, Folder, Id, Kept};
 use crate::drafts;
 use crate::trouble::Trouble;
 use std::collections::{BTreeMap, HashMap};
-use std::ffi::OsString;
+use std::ffi::{OsStr, OsString};
 use std::fs::FileType;
 use std::io;
 use std::path::{Path, PathBuf};
@@ -90,7 +90,7 @@ fn names_in(
     Ok(names)
 }
 
-fn sort_of(name: &std::ffi::OsStr, kind: FileType) -> Sort {
+fn sort_of(name: &OsStr, kind: FileType) -> Sort {
     if !kind.is_file() {
         Sort::Other(disk::other(kind))
     } else if drafts::is_draft(name) {
