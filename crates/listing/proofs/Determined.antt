@@ -8,29 +8,22 @@ use lib.Seq.{take-at, drop-at, length-take-le}
 use Rattle.rules.specs.Sheet.{sheet}
 use Rattle.rules.specs.Tests.{_≤?_}
 use Rattle.rules.proofs.Truth.{to≤, cases}
-use Rattle.listing.specs.Listing.{bigEnough, listAnswer, listTable, listOutput}
+use Rattle.listing.specs.Listing.{bigEnough, listAnswer, listOutput, Promised}
 use Rattle.listing.proofs.SheetLaws.{short-answer, short-table, short-output, big-answer, big-output}
 use Rattle.listing.proofs.Lengths.{sheet-sized}
 
 -- the input f, the table t and the output o at entry
 module _ (f t o : List ℕ) where
-  -- the promise: an answer, and what is left in the table and in the output
-  pub record Promised (r : ℕ) (words left : List ℕ) : Type 0 where
-    pub answer : r ≡ listAnswer f t o
-    pub table : words ≡ listTable f t o
-    pub output : left ≡ listOutput f t o
-
   -- 01, "Each public call's promise determines its verdict, its values and every lent byte or word afterwards"
-  pub one-result : {r r′ : ℕ} {words words′ left left′ : List ℕ} → Promised r words left → Promised r′ words′ left′ → (r ≡ r′) × (words ≡ words′) × (left ≡ left′)
+  pub one-result : {r r′ : ℕ} {words words′ left left′ : List ℕ} → Promised f t o r words left → Promised f t o r′ words′ left′ → (r ≡ r′) × (words ≡ words′) × (left ≡ left′)
   one-result p q = (p .answer ∙ sym (q .answer), p .table ∙ sym (q .table), p .output ∙ sym (q .output))
 
   -- an output below 512 bytes: nothing is touched, and the answer is 0
-  pub nothing-listed : {r : ℕ} {words left : List ℕ} → length o < 512 → Promised r words left → (r ≡ 0) × (words ≡ t) × (left ≡ o)
-  nothing-listed h p =
-      (p .answer ∙ sym (short-answer f t o h), p .table ∙ sym (short-table f t o h), p .output ∙ sym (short-output f t o h))
+  pub nothing-listed : {r : ℕ} {words left : List ℕ} → length o < 512 → Promised f t o r words left → (r ≡ 0) × (words ≡ t) × (left ≡ o)
+  nothing-listed h p = one-result p record { answer = short-answer f t o h; table = short-table f t o h; output = short-output f t o h }
 
   -- otherwise the sheet stands at the start, and what lies behind it stays; the answer is its length, which is never 0
-  module _ {r : ℕ} {words left : List ℕ} (h : 512 ≤ length o) (p : Promised r words left) where
+  module _ {r : ℕ} {words left : List ℕ} (h : 512 ≤ length o) (p : Promised f t o r words left) where
     long : r ≡ length (sheet f t)
     long = p .answer ∙ big-answer f t o h
 
@@ -55,9 +48,9 @@ output-long : (f t o : List ℕ) → length (listOutput f t o) ≡ length o
 unfolding listOutput bigEnough
 output-long f t o = cases (512 ≤? length o) (λ e. rw e (text-over (sheet f t) o (omega (arith, to≤ e, sheet-sized f t .short)))) (λ e. rw e)
 
-module _ (f t o : List ℕ) {r : ℕ} {left : List ℕ} (a : r ≡ listAnswer f t o) (b : left ≡ listOutput f t o) where
+module _ (f t o : List ℕ) {r : ℕ} {words left : List ℕ} (p : Promised f t o r words left) where
   pub answer-fits : r ≤ length left
-  answer-fits = let e : length left ≡ length o = ap length b ∙ output-long f t o in omega (arith, answer-within f t o)
+  answer-fits = let e : length left ≡ length o = ap length (p .output) ∙ output-long f t o in omega (arith, p .answer, answer-within f t o)
 
   pub text-taken : r ≡ length (take r left)
   text-taken = sym (length-take-le r left answer-fits)

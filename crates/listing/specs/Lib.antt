@@ -1,3 +1,3 @@
--- What the promises of `listing` cite besides the rules.
+-- What list promises, and what the promises of `listing` cite besides the rules.
 pub mod Laying
 pub mod Listing

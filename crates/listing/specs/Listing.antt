@@ -1,4 +1,5 @@
--- What `list` answers and leaves, for every input, table and output.
+-- What `list` answers and leaves, for every input, table and output, and what it promises.
+use mathlib.Core.Path.{_≡_}
 use mathlib.Core.Bool.{Bool, cond}
 use mathlib.Core.List.{List, [], _∷_, _++_}
 use Prim.Native.Nat.{ℕ}
@@ -25,6 +26,12 @@ listOutput input table out = cond (bigEnough out) (sheet input table ++ drop (le
 -- as check leaves it; too large an input and too short an output leave it as it was
 unfoldable pub listTable : List ℕ → List ℕ → List ℕ → List ℕ
 listTable input table out = cond (bigEnough out & length input ≤? 64_800) (checkTable input table) table
+
+-- the promise: the answer r to an input f, and what is left of the table t and of the output o
+pub record Promised (f t o : List ℕ) (r : ℕ) (words left : List ℕ) : Type 0 where
+  pub answer : r ≡ listAnswer f t o
+  pub table : words ≡ listTable f t o
+  pub output : left ≡ listOutput f t o
 
 -- ---- the parts
 unfoldable pub answerIn : Checked → Answer

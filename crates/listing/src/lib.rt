@@ -6,12 +6,11 @@ use crate::lines::list_file;
 use crate::lines::list_kinds;
 use kinds::Checked;
 use kinds::Fault;
-ghost use mathlib.Core.Path.{_≡_};
 ghost use lib.ListN.{length};
 ghost use Prim.Native.Nat.{_≤_};
 ghost use Rattle.rules.specs.Sheet.{listed};
 ghost use Rattle.listing.specs.Laying.{Laid};
-ghost use Rattle.listing.specs.Listing.{answerIn, listAnswer, listTable, listOutput};
+ghost use Rattle.listing.specs.Listing.{answerIn, Promised};
 
 // The most that the sheet takes: 800 records.
 pub const MOST: usize = 64_800;
@@ -36,9 +35,7 @@ fn list_checked(out: &mut [u8], blocks: usize, v: Checked) -> usize
 // The sheet from the output's first byte on, and its length. The room is looked at first and is the same for every input, so that
 // an output which is too short leaves the table as it was too; the answer is then 0, which no sheet has for its length.
 pub fn list(input: &[u8], table: &mut [u32], out: &mut [u8]) -> usize
-    ensures answer { λ r. ⌜ r ≡ listAnswer (now (input .entry)) (now (table .entry)) (now (out .entry)) ⌝ }
-    ensures table { λ _. ⌜ now (table .exit) ≡ listTable (now (input .entry)) (now (table .entry)) (now (out .entry)) ⌝ }
-    ensures output { λ _. ⌜ now (out .exit) ≡ listOutput (now (input .entry)) (now (table .entry)) (now (out .entry)) ⌝ }
+    ensures { λ r. ⌜ Promised (now (input .entry)) (now (table .entry)) (now (out .entry)) r (now (table .exit)) (now (out .exit)) ⌝ }
 {
     if out.len() < ROOM {
         return 0;

@@ -14,14 +14,14 @@ use kinds::Fault;
 use kinds::Judged;
 use kinds::Reading;
 ghost use mathlib.Core.Path.{_≡_};
-ghost use Prim.Native.Nat.{_+_};
 ghost use Rattle.rules.specs.Tests.{_&_, _≤?_, within};
 ghost use Rattle.rules.specs.Records.{readLine};
 ghost use Rattle.rules.specs.Files.{begun};
-ghost use Rattle.rules.specs.Calls.{readAs, readOf, widthAsked, fieldOffset, fieldOf};
+ghost use Rattle.rules.specs.Calls.{readAs, widthAsked};
 ghost use Rattle.rules.specs.Chapter4.{chapter4};
 ghost use Rattle.kinds.specs.Values.{readingOf};
 ghost use Rattle.reading.specs.Widths.{widthIn};
+ghost use Rattle.reading.specs.Promise.{PromisedReading, PromisedPart};
 
 // 13 is for record 0, above 99,999, and past the last.
 fn is_there(file: &[u8], record: usize) -> bool
@@ -47,7 +47,7 @@ fn read_line(line: &[u8], record: usize) -> Reading
 
 // A record by its number, judged by itself: its sequence number and values, or the refusal.
 pub fn read(file: &[u8], record: usize) -> Reading
-    ensures { λ r. ⌜ r ≡ readingOf (readOf (now (file .entry)) «record») ⌝ }
+    ensures { λ r. ⌜ PromisedReading (now (file .entry)) «record» r ⌝ }
 {
     if is_there(file, record) {
         let l = line(file, record - 1);
@@ -83,8 +83,7 @@ fn width_asked(file: &[u8], record: usize, column: usize) -> usize
 
 // The columns of the field that starts at a column, as a part of the file itself; empty, at its start, if read refuses or none does.
 pub fn field(file: &[u8], record: usize, column: usize) -> &[u8]
-    ensures contents { λ r. ⌜ now r ≡ fieldOf (now (file .entry)) «record» column ⌝ }
-    ensures place { λ r. ⌜ (r .ptr .0 ≡ file .entry .ptr .0) × (r .ptr .1 ≡ file .entry .ptr .1 + fieldOffset (now (file .entry)) «record» column) ⌝ }
+    ensures { λ r. ⌜ PromisedPart (now (file .entry)) «record» column (file .entry .ptr .0) (file .entry .ptr .1) (now r) (r .ptr .0) (r .ptr .1) ⌝ }
 {
     let w = width_asked(file, record, column);
     if w == 0 {

@@ -34,6 +34,34 @@ first-words : (b : Bool) (ms : List Meaning) → length (cond b (words ms) (repl
 first-words true ms = length-words ms
 first-words false ms = length-replicate {A = ℕ} 12_000 0
 
+-- ---- what an answer tells, whatever the call
+module _ (f : List ℕ) (v : Checked) where
+  number-of : (x : Result) → v ≡ checkedOf (answer x (meanings chapter4 f)) → v .fault .number ≡ checkedOf (answer x (meanings chapter4 f)) .fault .number
+  number-of x e = ap (λ (y : Checked). y .fault .number) e
+
+  zero-good : v ≡ checkedOf (answer accept (meanings chapter4 f)) → v .fault .number ≡ 0
+  zero-good e = number-of accept e ∙ (unfold checkedOf answer in refl)
+
+  pub number-bad : (n r c : ℕ) → v ≡ checkedOf (answer (refuse n r c) (meanings chapter4 f)) → v .fault .number ≡ n
+  number-bad n r c e = number-of (refuse n r c) e ∙ (unfold checkedOf answer in refl)
+
+  pub names : (n r c : ℕ) → 1 ≤ n → v ≡ checkedOf (answer (refuse n r c) (meanings chapter4 f)) → named v ≡ refuse n r c
+  unfolding named
+  names n r c h e = rw e (unfold checkedOf answer in rw (of≢ {m = n} {n = 0} (λ z. omega arith)))
+
+  names-good : v ≡ checkedOf (answer accept (meanings chapter4 f)) → named v ≡ accept
+  unfolding named
+  names-good e = rw e (unfold checkedOf answer _=?_ in refl)
+
+  uncounted : (n r c : ℕ) → v ≡ checkedOf (answer (refuse n r c) (meanings chapter4 f)) → v .counts ≡ replicate 14 0
+  uncounted n r c e = ap (λ (y : Checked). y .counts) e ∙ (unfold checkedOf answer in refl)
+
+  -- refusal 1
+  pub refused-1 : (t u : List ℕ) → v ≡ checkedOf (answer (refuse 1 0 0) (meanings chapter4 f)) → u ≡ t → Refusing t v u
+  refused-1 t u e w =
+      let one : v .fault .number ≡ 1 = number-bad 1 0 0 e in
+      record { numbers = omega arith; none-counted = λ z. uncounted 1 0 0 e; untouched = λ z. w; zeros = λ z y. absurd (y one); later = ap (drop 12_000) w }
+
 module _ (f t : List ℕ) (v : Checked) (u : List ℕ) (p : Promised f t v u) where
   -- ---- the three ways a call can end
   data Ends : Type 0 where
@@ -60,57 +88,34 @@ module _ (f t : List ℕ) (v : Checked) (u : List ℕ) (p : Promised f t v u) wh
           no : isAccept (refuse n r c) ≡ false
           no = unfold isAccept in refl
 
-  -- ---- what each way tells
-  number-of : (x : Result) → v ≡ checkedOf (answer x (meanings chapter4 f)) → v .fault .number ≡ checkedOf (answer x (meanings chapter4 f)) .fault .number
-  number-of x e = ap (λ (y : Checked). y .fault .number) e
-
-  zero-good : v ≡ checkedOf (answer accept (meanings chapter4 f)) → v .fault .number ≡ 0
-  zero-good e = number-of accept e ∙ (unfold checkedOf answer in refl)
-
-  number-bad : (n r c : ℕ) → v ≡ checkedOf (answer (refuse n r c) (meanings chapter4 f)) → v .fault .number ≡ n
-  number-bad n r c e = number-of (refuse n r c) e ∙ (unfold checkedOf answer in refl)
-
-  names : (n r c : ℕ) → 1 ≤ n → v ≡ checkedOf (answer (refuse n r c) (meanings chapter4 f)) → named v ≡ refuse n r c
-  unfolding named
-  names n r c h e = rw e (unfold checkedOf answer in rw (of≢ {m = n} {n = 0} (λ z. omega arith)))
-
-  names-good : v ≡ checkedOf (answer accept (meanings chapter4 f)) → named v ≡ accept
-  unfolding named
-  names-good e = rw e (unfold checkedOf answer _=?_ in refl)
-
-  uncounted : (n r c : ℕ) → v ≡ checkedOf (answer (refuse n r c) (meanings chapter4 f)) → v .counts ≡ replicate 14 0
-  uncounted n r c e = ap (λ (y : Checked). y .counts) e ∙ (unfold checkedOf answer in refl)
-
   -- ---- demand 1
   pub demand-1 : Refusing t v u
   demand-1 = by ends
     where
       by : Ends → Refusing t v u
-      by (short h e w) =
-          let one : v .fault .number ≡ 1 = number-bad 1 0 0 e in
-          record { numbers = omega arith; none-counted = λ z. uncounted 1 0 0 e; untouched = λ z. w; zeros = λ z y. absurd (y one); later = ap (drop 12_000) w }
+      by (short h e w) = refused-1 f v t u e w
       by (good h a e w) =
-          let none : v .fault .number ≡ 0 = zero-good e in
+          let none : v .fault .number ≡ 0 = zero-good f v e in
           record { numbers = omega arith; none-counted = λ z. absurd (z none); untouched = λ z. absurd (omega arith); zeros = λ z y. absurd (z none); later = ap (drop 12_000) w ∙ drop-at (words (meanings chapter4 f)) (drop 12_000 t) 12_000 (length-words (meanings chapter4 f)) }
       by (bad h n r c a e w) =
-          let its : v .fault .number ≡ n = number-bad n r c e in
+          let its : v .fault .number ≡ n = number-bad f v n r c e in
           let range = file-numbers f n r c a in
           record {
             numbers = omega (arith, its, range .1);
-            none-counted = λ z. uncounted n r c e;
+            none-counted = λ z. uncounted f v n r c e;
             untouched = λ z. absurd (omega (arith, z, its, range .0));
             zeros = λ z y. ap (take 12_000) w ∙ take-at (replicate 12_000 0) (drop 12_000 t) 12_000 (length-replicate {A = ℕ} 12_000 0);
             later = ap (drop 12_000) w ∙ drop-at (replicate 12_000 0) (drop 12_000 t) 12_000 (length-replicate {A = ℕ} 12_000 0);
           }
 
   -- ---- demand 2
-  named-is : named v ≡ outcome (bigTable t) f
+  pub named-is : named v ≡ outcome (bigTable t) f
   named-is = by ends
     where
       by : Ends → named v ≡ outcome (bigTable t) f
-      by (short h e w) = names 1 0 0 (omega arith) e ∙ (unfold outcome bigTable in rw (of> {m = 12_000} {n = length t} h))
-      by (good h a e w) = names-good e ∙ (unfold outcome bigTable in rw (of≤ {m = 12_000} {n = length t} h, a))
-      by (bad h n r c a e w) = let range = file-numbers f n r c a in names n r c (omega (arith, range .0)) e ∙ (unfold outcome bigTable in rw (of≤ {m = 12_000} {n = length t} h, a))
+      by (short h e w) = names f v 1 0 0 (omega arith) e ∙ (unfold outcome bigTable in rw (of> {m = 12_000} {n = length t} h))
+      by (good h a e w) = names-good f v e ∙ (unfold outcome bigTable in rw (of≤ {m = 12_000} {n = length t} h, a))
+      by (bad h n r c a e w) = let range = file-numbers f n r c a in names f v n r c (omega (arith, range .0)) e ∙ (unfold outcome bigTable in rw (of≤ {m = 12_000} {n = length t} h, a))
 
   zero-accepted : 12_000 ≤ length t → v .fault .number ≡ 0 → accepted chapter4 f ≡ true
   unfolding accepted
@@ -119,7 +124,7 @@ module _ (f t : List ℕ) (v : Checked) (u : List ℕ) (p : Promised f t v u) wh
       by : Ends → isAccept (verdict chapter4 f) ≡ true
       by (short h e w) = absurd (omega arith)
       by (good h a e w) = rw a (unfold isAccept in refl)
-      by (bad h n r c a e w) = let range = file-numbers f n r c a in absurd (omega (arith, z, number-bad n r c e, range .0))
+      by (bad h n r c a e w) = let range = file-numbers f n r c a in absurd (omega (arith, z, number-bad f v n r c e, range .0))
 
   pub accepted-zero : 12_000 ≤ length t → accepted chapter4 f ≡ true → v .fault .number ≡ 0
   accepted-zero k y = by ends
@@ -129,18 +134,18 @@ module _ (f t : List ℕ) (v : Checked) (u : List ℕ) (p : Promised f t v u) wh
 
       by : Ends → v .fault .number ≡ 0
       by (short h e w) = absurd (omega arith)
-      by (good h a e w) = zero-good e
+      by (good h a e w) = zero-good f v e
       by (bad h n r c a e w) = absurd (no n r c a)
 
   pub refused-number : 12_000 ≤ length t → (n r c : ℕ) → verdict chapter4 f ≡ refuse n r c → v .fault .number ≡ n
-  refused-number k n r c y = number-bad n r c (p .answered ∙ (unfold checkAnswer outcome bigTable in rw (of≤ {m = 12_000} {n = length t} k, y)))
+  refused-number k n r c y = number-bad f v n r c (p .answered ∙ (unfold checkAnswer outcome bigTable in rw (of≤ {m = 12_000} {n = length t} k, y)))
 
   -- a file with the number 0 was taken with a full-size table
-  taken : v .fault .number ≡ 0 → 12_000 ≤ length t
+  pub taken : v .fault .number ≡ 0 → 12_000 ≤ length t
   taken z = by ends
     where
       by : Ends → 12_000 ≤ length t
-      by (short h e w) = absurd (omega (arith, z, number-bad 1 0 0 e))
+      by (short h e w) = absurd (omega (arith, z, number-bad f v 1 0 0 e))
       by (good h a e w) = h
       by (bad h n r c a e w) = h
 
@@ -156,11 +161,11 @@ module _ (f t : List ℕ) (v : Checked) (u : List ℕ) (p : Promised f t v u) wh
   }
     where
       its-counts : v .fault .number ≡ 0 → Ends → v .counts ≡ counts (meanings chapter4 f)
-      its-counts z (short h e w) = absurd (omega (arith, z, number-bad 1 0 0 e))
+      its-counts z (short h e w) = absurd (omega (arith, z, number-bad f v 1 0 0 e))
       its-counts z (good h a e w) = ap (λ (y : Checked). y .counts) e ∙ (unfold checkedOf answer in refl)
-      its-counts z (bad h n r c a e w) = let range = file-numbers f n r c a in absurd (omega (arith, z, number-bad n r c e, range .0))
+      its-counts z (bad h n r c a e w) = let range = file-numbers f n r c a in absurd (omega (arith, z, number-bad f v n r c e, range .0))
 
       its-words : v .fault .number ≡ 0 → Ends → take 12_000 u ≡ words (meanings chapter4 f)
-      its-words z (short h e w) = absurd (omega (arith, z, number-bad 1 0 0 e))
+      its-words z (short h e w) = absurd (omega (arith, z, number-bad f v 1 0 0 e))
       its-words z (good h a e w) = ap (take 12_000) w ∙ take-at (words (meanings chapter4 f)) (drop 12_000 t) 12_000 (length-words (meanings chapter4 f))
-      its-words z (bad h n r c a e w) = let range = file-numbers f n r c a in absurd (omega (arith, z, number-bad n r c e, range .0))
+      its-words z (bad h n r c a e w) = let range = file-numbers f n r c a in absurd (omega (arith, z, number-bad f v n r c e, range .0))

@@ -14,11 +14,12 @@ use kinds::Checked;
 use quick::tables::CLASSES;
 ghost use mathlib.Core.Path.{_≡_};
 ghost use lib.ListN.{length};
-ghost use Rattle.rules.specs.Calls.{answer, checkAnswer, checkTable};
+ghost use Rattle.rules.specs.Calls.{answer};
 ghost use Rattle.rules.specs.Files.{meanings, verdict};
 ghost use Rattle.rules.specs.Chapter4.{chapter4};
 ghost use Rattle.kinds.specs.Values.{checkedOf};
 ghost use Rattle.walk.specs.Walking.{Walked, settledOf, tableAfter};
+ghost use Rattle.walk.specs.Promise.{Promised};
 
 // 11 and 12 are judged only where the walk found none of the others.
 fn refer_walked(file: &[u8], words: &[u32], v: Checked) -> Checked
@@ -55,8 +56,7 @@ fn judge_file(file: &[u8], words: &mut [u32]) -> Checked
 
 // A file and a lent table: acceptance with a count of each kind of record, or the first fault.
 pub fn check(file: &[u8], table: &mut [u32]) -> Checked
-    ensures answer { λ v. ⌜ v ≡ checkedOf (checkAnswer (now (file .entry)) (now (table .entry))) ⌝ }
-    ensures table { λ _. ⌜ now (table .exit) ≡ checkTable (now (file .entry)) (now (table .entry)) ⌝ }
+    ensures { λ v. ⌜ Promised (now (file .entry)) (now (table .entry)) v (now (table .exit)) ⌝ }
 {
     if table.len() < 12_000 {
         return refused(1, 0, 0);

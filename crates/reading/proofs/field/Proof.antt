@@ -24,7 +24,11 @@ field-spec =
     (λ c. let a = c .before .before in
     let s = a .before .before .args in
     let e = empty-offset (s .file .now) (s .«record») (s .column) (a .width-asked .result) (a .width-asked .ensures) (c .before .if1 .taken) in
-    (empty-contents (s .file .now) (s .«record») (s .column) (a .width-asked .result) (a .width-asked .ensures) (c .before .if1 .taken), (refl, add-comm 0 (s .file .ptr .1) ∙ ap (λ n. s .file .ptr .1 + n) e)))
+    record {
+      contents = empty-contents (s .file .now) (s .«record») (s .column) (a .width-asked .result) (a .width-asked .ensures) (c .before .if1 .taken);
+      same-block = refl;
+      offset = add-comm 0 (s .file .ptr .1) ∙ ap (λ n. s .file .ptr .1 + n) e;
+    })
     (λ c. fits c .0)
     (λ c. let k = fits c in omega arith)
     (λ c. let k = fits c in omega arith)
@@ -36,10 +40,9 @@ field-spec =
     (λ c. let a = c .before .before in
     let s = a .before .before .args in
     let o = 81 * (s .«record» - 1) + (s .column - 1) in
-    let w = a .width-asked .result in (
-      some-contents (s .file .now) (s .«record») (s .column) w (a .width-asked .ensures) (c .before .if1 .left) (o + w - o) (add-sub-cancel-left o w),
-      (
-        refl,
-        add-comm o (s .file .ptr .1) ∙ ap (λ n. s .file .ptr .1 + n) (some-offset (s .file .now) (s .«record») (s .column) w (a .width-asked .ensures) (c .before .if1 .left)),
-      ),
-    )))
+    let w = a .width-asked .result in
+    record {
+      contents = some-contents (s .file .now) (s .«record») (s .column) w (a .width-asked .ensures) (c .before .if1 .left) (o + w - o) (add-sub-cancel-left o w);
+      same-block = refl;
+      offset = add-comm o (s .file .ptr .1) ∙ ap (λ n. s .file .ptr .1 + n) (some-offset (s .file .now) (s .«record») (s .column) w (a .width-asked .ensures) (c .before .if1 .left));
+    }))
