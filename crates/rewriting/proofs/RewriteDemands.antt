@@ -1,4 +1,4 @@
--- Demand 3 as a fact about runs of rewrite, from its promise alone.
+-- The three demands as facts about rewrite, from its promise alone.
 use mathlib.Core.Path.{_≡_, refl, sym, _∙_, ap, ap₂, subst}
 use mathlib.Core.Logic.{_↔_}
 use mathlib.Core.Bool.{Bool, true, false, cond, false≢true}
@@ -13,23 +13,65 @@ use Rattle.rules.specs.Records.{sequence, codeAt}
 use Rattle.rules.specs.Kinds.{kindOf}
 use Rattle.rules.specs.Files.{Result, accept, refuse, isAccept, lines, meanings, verdict, accepted, rewritten}
 use Rattle.rules.specs.References.{words, counts}
+use Rattle.rules.specs.Faults.{FirstOf, CallFaults}
 use Rattle.rules.specs.Calls.{outcome, bigTable, bigOutput, answer, tableLeft, outputLeft, checkAnswer, checkTable, rewriteRoom, rewriteAnswer, rewriteTable, rewriteOutput}
 use Rattle.rules.specs.Chapter4.{chapter4}
 use Rattle.rules.specs.Demands.{Demand3}
-use Rattle.rules.proofs.Truth.{both, and, of≤, to≤, cases}
+use Rattle.rules.proofs.Truth.{both, and, of≤, to≤, no≤, cases}
 use Rattle.rules.proofs.FileLaws.{keeps-length}
 use Rattle.rules.proofs.Chapter4Laws.{sound}
 use Rattle.rules.proofs.ReferenceLaws.{length-words}
 use Rattle.rules.proofs.Numbered.{zero-accepts}
-use Rattle.rules.proofs.Demands.{demand-3}
+use Rattle.rules.proofs.Demands.{demand-2, demand-3}
 use Rattle.kinds.specs.declared.Checked.{Checked}
 use Rattle.kinds.specs.Values.{checkedOf}
 use Rattle.walk.specs.Promise as check
-use Rattle.rewriting.specs.Promise.{Promised, Run, styled, Rewrites}
+use Rattle.walk.proofs.CheckDemands.{refused-1, number-bad, names, named-is, taken, demand-1, demand-2-check}
+use Rattle.rewriting.specs.Promise.{Promised, Refusing, Judging, Run, styled, Rewrites}
+use Rattle.rewriting.proofs.RewriteLaws.{no-room, tight-table, tight-output, by-table, kept-output}
 
 -- 01, "Prove that two results allowed by one promise are equal"
 pub one-result : (f t o : List ℕ) (v w : Checked) (u x p q : List ℕ) → Promised f t o v u p → Promised f t o w x q → (v ≡ w) × (u ≡ x) × (p ≡ q)
 one-result f t o v w u x p q a b = (a .answered ∙ sym (b .answered), a .left ∙ sym (b .left), a .written ∙ sym (b .written))
+
+-- ---- demands 1 and 2
+module _ (f t o : List ℕ) (v : Checked) (u p : List ℕ) (promised : Promised f t o v u p) where
+  -- with an output as long as the file: what check promises
+  as-promised : length f ≤ length o → check.Promised f t v u
+  as-promised k = record {
+    answered = promised .answered ∙ (unfold rewriteAnswer checkAnswer in rw (by-table f t o k));
+    left = promised .left ∙ (unfold rewriteTable checkTable in rw (by-table f t o k));
+  }
+
+  -- with a shorter one: refusal 1
+  tight : length o < length f → v ≡ checkedOf (answer (refuse 1 0 0) (meanings chapter4 f))
+  tight h = promised .answered ∙ (unfold rewriteAnswer outcome in rw (no-room f t o h))
+
+  pub demand-1-rewrite : Refusing t o v u p
+  demand-1-rewrite =
+      cases (length f ≤? length o)
+      (λ b. record {
+        as-check = demand-1 f t v u (as-promised (to≤ b));
+        unwritten = λ n. promised .written ∙ sym (kept-output f t o (to≤ b) v (as-promised (to≤ b) .answered) n);
+      })
+      (λ b. record {
+        as-check = refused-1 f v t u (tight (no≤ b)) (promised .left ∙ sym (tight-table f t o (no≤ b)));
+        unwritten = λ n. promised .written ∙ sym (tight-output f t o (no≤ b));
+      })
+
+  names-outcome : check.named v ≡ outcome (rewriteRoom f t o) f
+  names-outcome =
+      cases (length f ≤? length o)
+      (λ b. named-is f t v u (as-promised (to≤ b)) ∙ ap (λ (enough : Bool). outcome enough f) (sym (by-table f t o (to≤ b))))
+      (λ b. names f v 1 0 0 (omega arith) (tight (no≤ b)) ∙ (unfold outcome in rw (no-room f t o (no≤ b))))
+
+  pub demand-2-rewrite : Judging f t o v u
+  demand-2-rewrite = record {
+    first = subst (FirstOf (CallFaults chapter4 (rewriteRoom f t o) f)) (sym names-outcome) (demand-2 (rewriteRoom f t o) f .first);
+    unique = λ w h. demand-2 (rewriteRoom f t o) f .unique w h ∙ sym names-outcome;
+    room = λ z. cases (length f ≤? length o) (λ b. (taken f t v u (as-promised (to≤ b)) z, to≤ b)) (λ b. absurd (omega (arith, z, number-bad f v 1 0 0 (tight (no≤ b)))));
+    as-check = λ k. demand-2-check f t v u (as-promised k);
+  }
 
 is-accept : (x : Result) → isAccept x ≡ true → x ≡ accept
 unfolding isAccept

@@ -19,7 +19,7 @@ use Rattle.walk.proofs.WalkLaws.{refused-is}
 
 -- ---- an output shorter than the file
 module _ (f t o : List ℕ) (h : length o < length f) where
-  no-room : rewriteRoom f t o ≡ false
+  pub no-room : rewriteRoom f t o ≡ false
   unfolding rewriteRoom bigOutput _&_
   no-room = rw (of> {m = length f} {n = length o} h) (cases (bigTable t) (λ e. rw e) (λ e. rw e))
 
@@ -39,7 +39,7 @@ module _ (f t o : List ℕ) (h : length o < length f) where
 
 -- ---- with room it goes by the table, as check does
 module _ (f t o : List ℕ) (h : length f ≤ length o) where
-  by-table : rewriteRoom f t o ≡ bigTable t
+  pub by-table : rewriteRoom f t o ≡ bigTable t
   unfolding rewriteRoom bigOutput
   by-table = rw (of≤ h) (and-true (bigTable t))
 

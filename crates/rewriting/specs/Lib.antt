@@ -1,2 +1,2 @@
--- What rewrite promises, and demand 3 said of its runs.
+-- What rewrite promises, and the three demands said of it.
 pub mod Promise

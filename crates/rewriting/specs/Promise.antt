@@ -1,4 +1,5 @@
--- What rewrite promises of its answer v, the table u that it leaves of t and the output p that it leaves of o; and demand 3 of two runs.
+-- What rewrite promises of its answer v, the table u that it leaves of t and the output p that it leaves of o; demands 1 and 2 said of them;
+-- and demand 3 of two runs.
 use mathlib.Core.Path.{_≡_}
 use mathlib.Core.Logic.{_↔_}
 use mathlib.Core.List.{List, [], map}
@@ -8,8 +9,9 @@ use lib.IntN.{pos}
 use Rattle.rules.specs.Items.{num, valueOf}
 use Rattle.rules.specs.Records.{sequence, codeAt}
 use Rattle.rules.specs.Kinds.{kindOf}
-use Rattle.rules.specs.Files.{lines, meanings}
-use Rattle.rules.specs.Calls.{rewriteAnswer, rewriteTable, rewriteOutput}
+use Rattle.rules.specs.Files.{Result, lines, meanings}
+use Rattle.rules.specs.Faults.{FirstOf, CallFaults}
+use Rattle.rules.specs.Calls.{rewriteRoom, rewriteAnswer, rewriteTable, rewriteOutput}
 use Rattle.rules.specs.Chapter4.{chapter4}
 use Rattle.kinds.specs.declared.Checked.{Checked}
 use Rattle.kinds.specs.Values.{checkedOf}
@@ -19,6 +21,19 @@ pub record Promised (f t o : List ℕ) (v : Checked) (u p : List ℕ) : Type 0 w
   pub answered : v ≡ checkedOf (rewriteAnswer f t o)
   pub left : u ≡ rewriteTable f t o
   pub written : p ≡ rewriteOutput f t o
+
+-- demand 1: as of check, and every refusal leaves the output as it was
+pub record Refusing (t o : List ℕ) (v : Checked) (u p : List ℕ) : Type 0 where
+  pub as-check : check.Refusing t v u
+  pub unwritten : (v .fault .number ≡ 0 → ⊥) → p ≡ o
+
+-- demand 2: the first fault in the paper's order and no other, 1 where the table or the output is too short; accepted only with room, and
+-- with an output as long as the file all that demand 2 says of check
+pub record Judging (f t o : List ℕ) (v : Checked) (u : List ℕ) : Type 0 where
+  pub first : FirstOf (CallFaults chapter4 (rewriteRoom f t o) f) (check.named v)
+  pub unique : (w : Result) → FirstOf (CallFaults chapter4 (rewriteRoom f t o) f) w → w ≡ check.named v
+  pub room : v .fault .number ≡ 0 → (12_000 ≤ length t) × (length f ≤ length o)
+  pub as-check : length f ≤ length o → check.Judging f t v u
 
 -- a run that took the file f
 pub record Run (f : List ℕ) : Type 0 where

@@ -12,9 +12,8 @@ ghost use mathlib.Core.List.{_++_};
 ghost use Prim.Native.Nat.{_≤_};
 ghost use lib.ListN.{length, drop};
 ghost use Rattle.rules.specs.Files.{lines, formedLines, rewritten};
-ghost use Rattle.rules.specs.Calls.{rewriteAnswer, rewriteTable, rewriteOutput};
 ghost use Rattle.rules.specs.Chapter4.{chapter4};
-ghost use Rattle.kinds.specs.Values.{checkedOf};
+ghost use Rattle.rewriting.specs.Promise.{Promised};
 
 // Each record in house style, record r with the sequence number 10 x r. The lines are good, so none is judged again.
 fn style_lines(file: &[u8], out: &mut [u8])
@@ -34,9 +33,7 @@ fn style_lines(file: &[u8], out: &mut [u8])
 
 // Table and faults as for check. The output gets the rewritten file from its first byte on; a refusal leaves it as it was.
 pub fn rewrite(file: &[u8], table: &mut [u32], out: &mut [u8]) -> Checked
-    ensures answer { λ v. ⌜ v ≡ checkedOf (rewriteAnswer (now (file .entry)) (now (table .entry)) (now (out .entry))) ⌝ }
-    ensures table { λ _. ⌜ now (table .exit) ≡ rewriteTable (now (file .entry)) (now (table .entry)) (now (out .entry)) ⌝ }
-    ensures out { λ _. ⌜ now (out .exit) ≡ rewriteOutput (now (file .entry)) (now (table .entry)) (now (out .entry)) ⌝ }
+    ensures { λ v. ⌜ Promised (now (file .entry)) (now (table .entry)) (now (out .entry)) v (now (table .exit)) (now (out .exit)) ⌝ }
 {
     if out.len() < file.len() {
         return refused(1, 0, 0);

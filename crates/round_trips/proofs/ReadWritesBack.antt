@@ -26,7 +26,7 @@ use Rattle.kinds.specs.declared.Reading.{Reading}
 use Rattle.kinds.specs.declared.Written.{Written}
 use Rattle.kinds.specs.Values.{sequenceOf, sequenceValue, kindNumber, recordFrom, recordOf, meaningOf, readingOf, writtenOf}
 use Rattle.kinds.proofs.TableLaws.{each-kind}
-use Rattle.writing.proofs.WriteLaws.{Promised}
+use Rattle.writing.specs.Promise.{Promised}
 use Rattle.round_trips.specs.Texts.{longTexts}
 use Rattle.round_trips.proofs.MeaningBack.{meaning-back}
 

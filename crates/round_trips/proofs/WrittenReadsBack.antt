@@ -18,7 +18,8 @@ use Rattle.kinds.specs.declared.Record.{Record}
 use Rattle.kinds.specs.declared.Reading.{Reading}
 use Rattle.kinds.specs.declared.Written.{Written}
 use Rattle.kinds.specs.Values.{sequenceOf, recordOf, readingOf}
-use Rattle.writing.proofs.WriteLaws.{Promised, done-reads-back, done-number, done-record}
+use Rattle.writing.specs.Promise.{Promised}
+use Rattle.writing.proofs.WriteLaws.{done-reads-back, done-number, done-record}
 
 read-ok : (n : ℕ) (l : List ℕ) (v : Verdict) → isOk v ≡ true
     → readingOf (readAs n l v) ≡ Reading.Values (sequenceOf (valueOf sequence (take 6 l))) (recordOf (meaning chapter4 l))

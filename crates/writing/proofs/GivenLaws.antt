@@ -12,7 +12,7 @@ use Rattle.rules.specs.Characters.{isDigit, isLetter, letter, digit, _or_, memb
 use Rattle.rules.specs.Digits.{val}
 use Rattle.rules.specs.Items.{Value, text, fits, render, number, media, angle, latitude, longitude, num}
 use Rattle.rules.specs.Fields.{Verdict, ok, fault, check, _⨾_, isOk, anything, given, entriesOf, agrees, agreesWith, judgeEach, judge, isFormed, formed}
-use Rattle.rules.specs.Records.{Meaning, sequence, knownCode, told, ofKind, judgeGiven, meant, lineOf}
+use Rattle.rules.specs.Records.{sequence, knownCode, told, ofKind, judgeGiven, meant, lineOf}
 use Rattle.rules.specs.Kinds.{dataCodes, kindFrom, starred, kindBetween, kindOf}
 use Rattle.rules.specs.Layouts.{at, anyText, kept, titled, project, occupation, comment, measurement, receiver, aerial, point, heights, layouts, layout}
 use Rattle.rules.specs.Chapter4.{chapter4}
@@ -26,14 +26,16 @@ use Rattle.columns.proofs.Loops.{&-is}
 use Rattle.kinds.specs.declared.Job.{Job}
 use Rattle.kinds.specs.declared.Occupation.{Occupation}
 use Rattle.kinds.specs.declared.Point.{Point}
+use Rattle.kinds.specs.declared.Sequence.{Sequence}
 use Rattle.kinds.specs.declared.Record.{Record}
 use Rattle.kinds.specs.declared.Record.the-variants as R
 use Rattle.kinds.specs.declared.Judged.{Judged}
 use Rattle.kinds.specs.declared.Written.{Written}
-use Rattle.kinds.specs.Values.{kindNumber, codeOf, valuesOf, meaningOf, judgedOf, writtenOf}
+use Rattle.kinds.specs.Values.{kindNumber, codeOf, valuesOf, meaningOf, sequenceValue, judgedOf, writtenOf}
 use Rattle.kinds.proofs.ValueLaws.{code-kind, good-is, bad-is}
 use Rattle.writing.specs.Judging.{afterOf, judgeRecord}
 use Rattle.writing.specs.Laying.{lay, layFields, layoutOf}
+use Rattle.writing.specs.Promise.{Promised}
 use Rattle.writing.proofs.JudgeLaws.{after-after, ⨾-same}
 use Rattle.writing.proofs.KindLaws.{wordOf}
 use Rattle.writing.proofs.LayLaws.{line-laid}
@@ -217,23 +219,20 @@ module _ (a b c : List ℕ) {w : Record} (h : formed (entriesOf (layoutOf (kindN
 pub judged-good : (v : Verdict) {j : Judged} → j ≡ judgedOf v → j ≡ Judged.Good → isOk v ≡ true
 judged-good v e h = ap isOk (good-is v (sym e ∙ h)) ∙ unfold isOk in refl
 
-module _ (k : ℕ) (q : Value) (m : Meaning) (out : List ℕ) where
-  pub write-short : length out < 81
-      → (Written.Refused record { number = 1; «record» = 0; column = 0 } ≡ writtenOf (writeVerdict (length out) k q m)) × (out ≡ writeOutput k q m out)
+module _ (s : Sequence) (w : Record) (a b c out : List ℕ) where
+  pub write-short : length out < 81 → Promised s w a b c out (Written.Refused record { number = 1; «record» = 0; column = 0 }) out
   unfolding writtenOf writeVerdict writeOutput check _⨾_ isOk
-  write-short h = let e : 81 ≤? length out ≡ false = of> h in (sym (rw e), sym (rw e))
+  write-short h = let e : 81 ≤? length out ≡ false = of> h in record { answer = sym (rw e); output = sym (rw e) }
 
-  module _ (h : 81 ≤ length out) {j : Judged} (g : j ≡ judgedOf (judgeGiven chapter4 k q m)) where
-    verdict-is : writeVerdict (length out) k q m ≡ judgeGiven chapter4 k q m
+  module _ (h : 81 ≤ length out) {j : Judged} (g : j ≡ judgedOf (judgeGiven chapter4 (kindNumber w) (sequenceValue s) (meaningOf w a b c))) where
+    verdict-is : writeVerdict (length out) (kindNumber w) (sequenceValue s) (meaningOf w a b c) ≡ judgeGiven chapter4 (kindNumber w) (sequenceValue s) (meaningOf w a b c)
     unfolding writeVerdict check _⨾_
     verdict-is = rw (of≤ h)
 
-    pub write-bad : (n c : ℕ) → j ≡ Judged.Bad n c
-        → (Written.Refused record { number = n; «record» = 0; column = c } ≡ writtenOf (writeVerdict (length out) k q m)) × (out ≡ writeOutput k q m out)
+    pub write-bad : (n d : ℕ) → j ≡ Judged.Bad n d → Promised s w a b c out (Written.Refused record { number = n; «record» = 0; column = d }) out
     unfolding writtenOf writeOutput isOk
-    write-bad n c b = let e = verdict-is ∙ bad-is (judgeGiven chapter4 k q m) n c (sym g ∙ b) in (sym (rw e), sym (rw e))
+    write-bad n d z = let e = verdict-is ∙ bad-is (judgeGiven chapter4 (kindNumber w) (sequenceValue s) (meaningOf w a b c)) n d (sym g ∙ z) in record { answer = sym (rw e); output = sym (rw e) }
 
-    pub write-good : {line : List ℕ} → j ≡ Judged.Good → line ≡ lineOf chapter4 q m
-        → (Written.Done ≡ writtenOf (writeVerdict (length out) k q m)) × (putMid 0 81 out line ≡ writeOutput k q m out)
+    pub write-good : {line : List ℕ} → j ≡ Judged.Good → line ≡ lineOf chapter4 (sequenceValue s) (meaningOf w a b c) → Promised s w a b c out Written.Done (putMid 0 81 out line)
     unfolding writtenOf writeOutput isOk
-    write-good b d = let e = verdict-is ∙ good-is (judgeGiven chapter4 k q m) (sym g ∙ b) in (sym (rw e), sym (rw (e, d)))
+    write-good z d = let e = verdict-is ∙ good-is (judgeGiven chapter4 (kindNumber w) (sequenceValue s) (meaningOf w a b c)) (sym g ∙ z) in record { answer = sym (rw e); output = sym (rw (e, d)) }

@@ -21,6 +21,7 @@ use Rattle.kinds.specs.declared.Fault.{Fault}
 use Rattle.kinds.specs.declared.Written.{Written}
 use Rattle.kinds.specs.Values.{sequenceValue, sequenceOf, kindNumber, meaningOf, recordOf, writtenOf}
 use Rattle.kinds.proofs.ValueLaws.{sequence-back, record-back}
+use Rattle.writing.specs.Promise.{Promised}
 use Rattle.writing.proofs.GivenLaws.{given-kind}
 
 done-ok : (v : Verdict) → writtenOf v ≡ Written.Done → v ≡ ok
@@ -34,21 +35,16 @@ refused-bad ok f e = cc
 refused-bad (fault n c) f e = refl
 
 module _ (s : Sequence) (w : Record) (a b c out : List ℕ) where
-  -- the promise: an answer, and what is left in the output
-  pub record Promised (r : Written) (left : List ℕ) : Type 0 where
-    pub answer : r ≡ writtenOf (writeVerdict (length out) (kindNumber w) (sequenceValue s) (meaningOf w a b c))
-    pub output : left ≡ writeOutput (kindNumber w) (sequenceValue s) (meaningOf w a b c) out
-
   -- 01, "Each public call's promise determines its verdict, its values and every lent byte"
-  pub one-result : {r r′ : Written} {left left′ : List ℕ} → Promised r left → Promised r′ left′ → (r ≡ r′) × (left ≡ left′)
+  pub one-result : {r r′ : Written} {left left′ : List ℕ} → Promised s w a b c out r left → Promised s w a b c out r′ left′ → (r ≡ r′) × (left ≡ left′)
   one-result p q = (p .answer ∙ sym (q .answer), p .output ∙ sym (q .output))
 
   -- a refusal leaves the output as it was
-  pub refused-leaves : {f : Fault} {left : List ℕ} → Promised (Written.Refused f) left → left ≡ out
+  pub refused-leaves : {f : Fault} {left : List ℕ} → Promised s w a b c out (Written.Refused f) left → left ≡ out
   unfolding writeOutput
   refused-leaves {f} p = p .output ∙ rw (refused-bad _ f (sym (p .answer)))
 
-  module _ {left : List ℕ} (p : Promised Written.Done left) where
+  module _ {left : List ℕ} (p : Promised s w a b c out Written.Done left) where
     all-ok : isOk (writeVerdict (length out) (kindNumber w) (sequenceValue s) (meaningOf w a b c)) ≡ true
     all-ok = ap isOk (done-ok _ (sym (p .answer))) ∙ unfold isOk in refl
 

@@ -14,10 +14,7 @@ pub mod styles;
 
 use lines::lay_line;
 use records::judge_given;
-ghost use mathlib.Core.Path.{_≡_};
-ghost use lib.ListN.{length};
-ghost use Rattle.rules.specs.Calls.{writeVerdict, writeOutput};
-ghost use Rattle.kinds.specs.Values.{sequenceValue, kindNumber, meaningOf, writtenOf};
+ghost use Rattle.writing.specs.Promise.{Promised};
 
 // Texts of more than four columns are given beside the record, in column order; a record that has fewer takes no notice of the rest.
 pub fn write(
@@ -28,8 +25,7 @@ pub fn write(
     second: &[u8],
     third: &[u8],
 ) -> Written
-    ensures answer { λ r. ⌜ r ≡ writtenOf (writeVerdict (length (now (out .entry))) (kindNumber what) (sequenceValue sequence) (meaningOf what (now (first .entry)) (now (second .entry)) (now (third .entry)))) ⌝ }
-    ensures output { λ _. ⌜ now (out .exit) ≡ writeOutput (kindNumber what) (sequenceValue sequence) (meaningOf what (now (first .entry)) (now (second .entry)) (now (third .entry))) (now (out .entry)) ⌝ }
+    ensures { λ r. ⌜ Promised sequence what (now (first .entry)) (now (second .entry)) (now (third .entry)) (now (out .entry)) r (now (out .exit)) ⌝ }
 {
     if out.len() < 81 {
         return Written::Refused(Fault {
