@@ -1,16 +1,18 @@
 -- Chapter 4 is a sound edition: its codes have four characters, its layouts fill columns 11-80, its references are judged in the paper's order.
-use mathlib.Core.Path.{_≡_, refl, sym, _∙_, ap}
+use mathlib.Core.Path.{_≡_, refl, sym, _∙_, ap, ap₂}
 use mathlib.Core.Bool.{Bool, true, false, cond, false≢true}
 use mathlib.Core.List.{List, [], _∷_, map}
-use Prim.Native.Nat.{ℕ, zero, suc, _+_, _≤_, _<_}
+use Prim.Native.Nat.{ℕ, zero, suc, _+_, _-_, _≤_, _<_}
 use native.Mathlib.Omega.{arith}
-use lib.ListN.{length, getD}
+use lib.ListN.{length, take, drop, getD}
+use lib.Seq.{drop-drop}
 use Rattle.rules.specs.Tests.{all, within, _&_, _≤?_, _=?_}
 use Rattle.rules.specs.Characters.{isPrintable, isDigit, isLetter, anyOf, letter, digit, _or_, member}
 use Rattle.rules.specs.Digits.{val}
-use Rattle.rules.specs.Items.{latitude, longitude, columns, width}
-use Rattle.rules.specs.Fields.{Field, Check, covers}
-use Rattle.rules.specs.Records.{Meaning, Edition, knownCode}
+use Rattle.rules.specs.Items.{latitude, longitude, columns, width, valueOf}
+use Rattle.rules.specs.Fields.{Field, Check, columnsOf, values, covers}
+use Rattle.rules.specs.Records.{Meaning, Edition, codeAt, knownCode, meaning}
+use Rattle.rules.specs.Files.{lines, meanings}
 use Rattle.rules.specs.Kinds.{dataCodes, kindFrom, starred, kindBetween, kindOf}
 use Rattle.rules.specs.Layouts.{at, tied, station, instrument, antenna, initials, state, anyText, metres, letterOrBlank, kept, titled, project, occupation, comment, measurement, receiver, aerial, point, heights, layouts, layout}
 use Rattle.rules.specs.Order.{mayCome, placeAfter, ruled, order, goto}
@@ -92,3 +94,33 @@ order-agrees = refl
 
 pub order-is-the-table : (place kind : ℕ) → place < 17 → kind < 14 → goto place kind ≡ ruled place kind
 order-is-the-table place kind p k = to≡ (below-holds 14 _ (below-holds 17 _ order-agrees place p) kind k)
+
+-- ---- columns 1-6 have no meaning: lines that differ in them only mean the same, and so do files
+columns-behind : (f : Field) (l k : List ℕ) → 7 ≤ f .from → drop 6 l ≡ drop 6 k → columnsOf f l ≡ columnsOf f k
+unfolding columnsOf
+columns-behind f l k h e =
+    let far : f .from - 1 ≡ 6 + (f .from - 7) = omega arith in
+    ap (take (width (f .item))) (ap (λ n. drop n l) far ∙ sym (drop-drop (f .from - 7) 6 l) ∙ ap (drop (f .from - 7)) e ∙ drop-drop (f .from - 7) 6 k ∙ ap (λ n. drop n k) (sym far))
+
+values-behind : (c : ℕ) (fs : List Field) (l k : List ℕ) → 7 ≤ c → covers c fs ≡ true → drop 6 l ≡ drop 6 k → values fs l ≡ values fs k
+unfolding covers values
+values-behind c [] l k h t e = refl
+values-behind c (f ∷ fs) l k h t e =
+    let from : f .from ≡ c = to≡ (both (both t .0) .0) in
+    ap₂ _∷_ (ap (valueOf (f .item)) (columns-behind f l k (omega arith) e)) (values-behind (c + width (f .item)) fs l k (omega arith) (both t .1) e)
+
+pub same-but-number : (l k : List ℕ) → drop 6 l ≡ drop 6 k → meaning chapter4 l ≡ meaning chapter4 k
+unfolding meaning codeAt
+same-but-number l k e =
+    let code : codeAt l ≡ codeAt k = unfold codeAt in ap (take 4) e in
+    ap₂ (λ c vs. record { code = c; values = vs }) code (ap (λ c. values (layout c) l) code ∙ values-behind 11 (layout (codeAt k)) l k (omega arith) (layout-covers (codeAt k)) e)
+
+behind-numbers : (ls ks : List (List ℕ)) → map (drop 6) ls ≡ map (drop 6) ks → map (meaning chapter4) ls ≡ map (meaning chapter4) ks
+behind-numbers [] [] e = refl
+behind-numbers [] (k ∷ ks) e = absurd (let n : 0 ≡ suc (length (map (drop 6) ks)) = ap length e in omega arith)
+behind-numbers (l ∷ ls) [] e = absurd (let n : suc (length (map (drop 6) ls)) ≡ 0 = ap length e in omega arith)
+behind-numbers (l ∷ ls) (k ∷ ks) e = ap₂ _∷_ (same-but-number l k (ap (λ xs. getD xs 0 []) e)) (behind-numbers ls ks (ap (drop 1) e))
+
+pub same-but-numbers : (f g : List ℕ) → map (drop 6) (lines f) ≡ map (drop 6) (lines g) → meanings chapter4 f ≡ meanings chapter4 g
+unfolding meanings
+same-but-numbers f g e = behind-numbers (lines f) (lines g) e

@@ -17,3 +17,7 @@ pub mod Conforming  -- accepted exactly when it conforms
 pub mod Demands  -- the demands
 pub mod Published  -- the published columns
 pub mod Samples  -- files by computation
+pub mod Edges  -- the edges of every field
+pub mod Follows  -- what may follow what, at every place
+pub mod Limits  -- the limits of every call, and what a refusal leaves
+pub mod CallSamples  -- every call by computation
