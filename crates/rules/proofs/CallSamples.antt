@@ -1,29 +1,28 @@
 -- Every call by computation: what read, field, write, rewrite, the words of the table and the sheet are for the sample file, and write at the ends of every field.
 use mathlib.Core.Path.{_≡_, refl, _∙_, ap}
-use mathlib.Core.Bool.{Bool, true, false, cond}
+use mathlib.Core.Bool.{cond}
 use mathlib.Core.List.{List, [], _∷_, _++_, map}
-use Prim.Native.Nat.{ℕ, zero, suc, _+_, _-_, _/_, _≤_}
+use Prim.Native.Nat.{ℕ, zero, suc, _+_, _≤_}
 use Prim.Native.String.{String}
-use native.Mathlib.Omega.{arith}
-use lib.ListN.{length, take, drop, getD, set, replicate}
+use lib.ListN.{length, take, set, replicate}
 use lib.IntN.{pos}
-use Rattle.rules.specs.Tests.{_=?_}
+use Rattle.rules.specs.Tests.{_≤?_, _=?_}
 use Rattle.rules.specs.Characters.{ascii}
 use Rattle.rules.specs.Digits.{stripped, numeral}
-use Rattle.rules.specs.Items.{Value, gap, missing, num, text, label, fits, parts}
+use Rattle.rules.specs.Items.{Value, gap, missing, num, text, label, parts}
 use Rattle.rules.specs.Fields.{Verdict, ok, fault}
 use Rattle.rules.specs.Records.{Meaning, meaning, ofKind, judgeGiven}
-use Rattle.rules.specs.Files.{Result, accept, refuse, meanings, verdict}
+use Rattle.rules.specs.Files.{accept, meanings, verdict}
 use Rattle.rules.specs.Layouts.{layout}
-use Rattle.rules.specs.References.{tabulate, wordAt, tally, counts}
+use Rattle.rules.specs.References.{wordAt, counts}
 use Rattle.rules.specs.Kinds.{*AA*, *10*, *12*, *25*, *27*, *70*, *72*, *80*, *86*}
 use Rattle.rules.specs.Chapter4.{chapter4}
-use Rattle.rules.specs.Calls.{Answer, checkAnswer, Reading, values, unread, readOf, isRead, partWidth, fieldWidth, widthAsked, fieldOffset, fieldOf, writeVerdict, writeOutput}
+use Rattle.rules.specs.Calls.{checkAnswer, values, unread, isRead, partWidth, fieldWidth, widthAsked, fieldOffset, fieldOf, writeVerdict, writeOutput}
 use Rattle.rules.specs.Sheet.{tabbed, fileLine, kindNames, kindLines, listed, sheet}
 use Rattle.rules.proofs.Samples.{full, judged, full-accepted, counted, full-counts, styled, readFrom, bytesOf}
 use Rattle.rules.proofs.Published.{below-0}
 use Rattle.rules.proofs.Edges.{lined, sameVerdict}
-use Rattle.rules.proofs.Limits.{taken-check, sheet-64800}
+use Rattle.rules.proofs.Limits.{taken-check}
 
 -- ---- rewrite: the sample file in house style
 unfoldable pub joined : List String → List ℕ
@@ -179,14 +178,17 @@ full-long : length (bytesOf full) ≡ 1_944
 unfolding bytesOf
 full-long = refl
 
+full-listed : (table : List ℕ) → sheet (bytesOf full) table ≡ listed 24 (checkAnswer (bytesOf full) table)
+unfolding sheet _≤?_
+full-listed table = rw full-long
+
 pub full-sheet : (table : List ℕ) → 12_000 ≤ length table
     → sheet (bytesOf full) table
     ≡ bytesOf (
     "FILE\t24\t0\t0\t0\n" ∷ "KIND\tAA\t2\n" ∷ "KIND\t10\t1\n" ∷ "KIND\t11\t1\n" ∷ "KIND\t12\t1\n" ∷ "KIND\t25\t2\n" ∷ "KIND\t26\t1\n" ∷ "KIND\t27\t5\n"
     ∷ "KIND\t70\t2\n" ∷ "KIND\t72\t2\n" ∷ "KIND\t80\t2\n" ∷ "KIND\t86\t2\n" ∷ "KIND\t91\t1\n" ∷ "KIND\t92\t1\n" ∷ "KIND\t93\t1\n" ∷ [])
 full-sheet table h =
-    sheet-64800 (bytesOf full) table (omega (arith, full-long))
-    ∙ ap (λ n. listed (n / 81) (checkAnswer (bytesOf full) table)) full-long
+    full-listed table
     ∙ ap (listed 24) (taken-check (bytesOf full) table h full-taken .0 ∙ ap (λ ns. record { number = 0; place = 0; column = 0; counts = ns }) full-counted)
     ∙ (unfold listed fileLine kindNames kindLines tabbed numeral stripped judged in refl)
 

@@ -1,10 +1,9 @@
--- The edges of every field, as 01 has them: for each record, columns from which a content is taken and the same columns from which one is refused,
--- just inside and just outside. Written from 01 (*27* *70* *72* from docs/LAYOUT.md), in its order; to be held beside it, not beside the definitions.
+-- The edges of every field: contents of its columns just inside, which are taken, and just outside, which are refused with their fault and column.
+-- Written from 01 (*27* *70* *72* from docs/LAYOUT.md) and not from the definitions, to be held beside it.
 use mathlib.Core.Path.{_≡_, refl}
 use mathlib.Core.Bool.{Bool, true, false, cond}
 use mathlib.Core.List.{List, [], _∷_, _++_}
 use Prim.Native.Nat.{ℕ, zero, suc, _+_, _-_}
-use Prim.Native.String as Str
 use Prim.Native.String.{String}
 use lib.ListN.{length, take, drop, replicate}
 use Rattle.rules.specs.Tests.{_&_, _=?_}
@@ -32,9 +31,9 @@ parted now [] = now ∷ []
 parted now (b ∷ bs) = cond (b =? 124) (now ∷ parted [] bs) (parted (now ++ b ∷ []) bs)
 
 pub data Row : Type 0 where
-  takes : ℕ → String → Row  -- from this column on: each of these contents is good
-  wrong : (number column : ℕ) → ℕ → String → Row  -- fault number and its column; from this column on: each of these contents has it
-  holds : ℕ → ℕ → String → String → Row  -- from this column on, so many columns: full of each of the first characters good, with each of the others at either end fault 9
+  takes : (from : ℕ) → String → Row  -- each of these contents is good
+  wrong : (number column from : ℕ) → String → Row  -- each of these contents has this fault at this column
+  holds : (from width : ℕ) → String → String → Row  -- full of each of the first characters it is good; each of the others, in its first or last column, is fault 9
 
 abbrev refuses : ℕ → String → Row
 refuses c s = wrong 9 c c s

@@ -1,7 +1,7 @@
 -- 01, "What may follow what": every place of the table, reached by records, with each of the fourteen kinds tried there;
 -- and what column 11 must be beside the records before. Written from 01's table, to be held beside it.
 use mathlib.Core.Path.{_≡_, refl}
-use mathlib.Core.Bool.{Bool, true, false, cond, not}
+use mathlib.Core.Bool.{Bool, cond, not}
 use mathlib.Core.List.{List, [], _∷_, _++_, map}
 use Prim.Native.Nat.{ℕ}
 use Prim.Native.String.{String}
@@ -38,10 +38,6 @@ unfoldable pub mayFollow : List ℕ → List ℕ
 unfolding since recordOf sweep sameVerdict
 mayFollow ks = let s = since (map recordOf ks) in sweep (λ k. not (sameVerdict (judgeLine chapter4 s (recordOf k)) (fault 7 7))) 14 0
 
--- a place of 01's table: records that lead to it, in each way that the table has, and what may come, in the sheet's order
-unfoldable pub Place : List (List ℕ) → List ℕ → Type 0
-Place ways may = map mayFollow ways ≡ map (λ w. may) ways
-
 abbrev titles : List ℕ
 titles = *AA* ∷ *10* ∷ []
 
@@ -60,90 +56,56 @@ defined = groups ++ *70* ∷ *72* ∷ []
 abbrev points : List ℕ
 points = defined ++ *80* ∷ *86* ∷ []
 
-pub after-nothing : Place ([] ∷ []) (*AA* ∷ [])
-unfolding Place mayFollow
-after-nothing = refl
+-- a place of the table: records that lead to it, in each way that the table has, and what may come, in the sheet's order
+pub data Place : Type 0 where
+  after : (ways : List (List ℕ)) (may : List ℕ) → Place
 
-pub after-first-job : Place ((*AA* ∷ []) ∷ []) (*10* ∷ [])
-unfolding Place mayFollow
-after-first-job = refl
+abbrev places : List Place
+places =
+    after ([] ∷ []) (*AA* ∷ [])  -- nothing
+    ∷ after ((*AA* ∷ []) ∷ []) (*10* ∷ [])  -- first job code
+    ∷ after (titles ∷ []) (*11* ∷ *12* ∷ [])  -- 10
+    ∷ after ((titles ++ *11* ∷ []) ∷ []) (*12* ∷ [])  -- 11
+    ∷ after (project ∷ (titles ++ *11* ∷ *12* ∷ []) ∷ []) (*25* ∷ [])  -- 12
+    ∷ after ((project ++ *25* ∷ []) ∷ (groups ++ *25* ∷ []) ∷ (groups ++ *27* ∷ *25* ∷ []) ∷ []) (*26* ∷ *27* ∷ [])  -- 25
+    ∷ after ((project ++ *25* ∷ *26* ∷ []) ∷ (project ++ *25* ∷ *26* ∷ *26* ∷ []) ∷ []) (*26* ∷ *27* ∷ [])  -- or 26
+    ∷ after ((project ++ *25* ∷ *27* ∷ []) ∷ (project ++ *25* ∷ *26* ∷ *27* ∷ []) ∷ (groups ++ *25* ∷ *27* ∷ []) ∷ (groups ++ *27* ∷ *25* ∷ *27* ∷ []) ∷ []) (*27* ∷ [])  -- first 27 of a group
+    ∷ after (groups ∷ (groups ++ group) ∷ (groups ++ *27* ∷ group) ∷ []) (*25* ∷ *27* ∷ *70* ∷ [])  -- second 27
+    ∷ after ((groups ++ *27* ∷ []) ∷ (groups ++ group ++ *27* ∷ []) ∷ []) (*25* ∷ *70* ∷ [])  -- third 27
+    ∷ after ((groups ++ *70* ∷ []) ∷ (groups ++ *27* ∷ *70* ∷ []) ∷ (groups ++ *70* ∷ *70* ∷ []) ∷ []) (*70* ∷ *72* ∷ [])  -- 70
+    ∷ after (defined ∷ (defined ++ *72* ∷ []) ∷ []) (*72* ∷ *80* ∷ [])  -- 72
+    ∷ after ((defined ++ *80* ∷ []) ∷ (points ++ *80* ∷ []) ∷ []) (*86* ∷ [])  -- 80
+    ∷ after (points ∷ (points ++ *80* ∷ *86* ∷ []) ∷ []) (*AA* ∷ *80* ∷ *91* ∷ *92* ∷ *93* ∷ [])  -- 86
+    ∷ after ((points ++ *91* ∷ []) ∷ (points ++ *91* ∷ *91* ∷ []) ∷ []) (*AA* ∷ *91* ∷ *92* ∷ *93* ∷ [])  -- 91
+    ∷ after ((points ++ *92* ∷ []) ∷ (points ++ *92* ∷ *92* ∷ []) ∷ (points ++ *91* ∷ *92* ∷ []) ∷ []) (*AA* ∷ *92* ∷ *93* ∷ [])  -- 92
+    ∷ after ((points ++ *93* ∷ []) ∷ (points ++ *91* ∷ *93* ∷ []) ∷ (points ++ *92* ∷ *93* ∷ []) ∷ []) (*AA* ∷ [])  -- 93
+    ∷ after ((points ++ *AA* ∷ []) ∷ (points ++ *91* ∷ *AA* ∷ []) ∷ (points ++ *92* ∷ *AA* ∷ []) ∷ (points ++ *93* ∷ *AA* ∷ []) ∷ []) []  -- last job code: nothing
+    ∷ []
 
-pub after-10 : Place (titles ∷ []) (*11* ∷ *12* ∷ [])
-unfolding Place mayFollow
-after-10 = refl
+unfoldable pub found : Place → List (List ℕ)
+unfolding mayFollow
+found (after ways may) = map mayFollow ways
 
-pub after-11 : Place ((titles ++ *11* ∷ []) ∷ []) (*12* ∷ [])
-unfolding Place mayFollow
-after-11 = refl
+unfoldable pub said : Place → List (List ℕ)
+said (after ways may) = map (λ way. may) ways
 
-pub after-12 : Place (project ∷ (titles ++ *11* ∷ *12* ∷ []) ∷ []) (*25* ∷ [])
-unfolding Place mayFollow
-after-12 = refl
-
-pub after-25-or-26 :
-    Place (
-    (project ++ *25* ∷ []) ∷ (project ++ *25* ∷ *26* ∷ []) ∷ (project ++ *25* ∷ *26* ∷ *26* ∷ [])
-    ∷ (groups ++ *25* ∷ []) ∷ (groups ++ *27* ∷ *25* ∷ []) ∷ [])
-    (*26* ∷ *27* ∷ [])
-unfolding Place mayFollow
-after-25-or-26 = refl
-
-pub after-first-27 : Place ((project ++ *25* ∷ *27* ∷ []) ∷ (project ++ *25* ∷ *26* ∷ *27* ∷ []) ∷ (groups ++ *25* ∷ *27* ∷ []) ∷ (groups ++ *27* ∷ *25* ∷ *27* ∷ []) ∷ []) (*27* ∷ [])
-unfolding Place mayFollow
-after-first-27 = refl
-
-pub after-second-27 : Place (groups ∷ (groups ++ group) ∷ []) (*25* ∷ *27* ∷ *70* ∷ [])
-unfolding Place mayFollow
-after-second-27 = refl
-
-pub after-third-27 : Place ((groups ++ *27* ∷ []) ∷ []) (*25* ∷ *70* ∷ [])
-unfolding Place mayFollow
-after-third-27 = refl
-
-pub after-70 : Place ((groups ++ *70* ∷ []) ∷ (groups ++ *27* ∷ *70* ∷ []) ∷ (groups ++ *70* ∷ *70* ∷ []) ∷ []) (*70* ∷ *72* ∷ [])
-unfolding Place mayFollow
-after-70 = refl
-
-pub after-72 : Place (defined ∷ (defined ++ *72* ∷ []) ∷ []) (*72* ∷ *80* ∷ [])
-unfolding Place mayFollow
-after-72 = refl
-
-pub after-80 : Place ((defined ++ *80* ∷ []) ∷ (points ++ *80* ∷ []) ∷ []) (*86* ∷ [])
-unfolding Place mayFollow
-after-80 = refl
-
-pub after-86 : Place (points ∷ (points ++ *80* ∷ *86* ∷ []) ∷ []) (*AA* ∷ *80* ∷ *91* ∷ *92* ∷ *93* ∷ [])
-unfolding Place mayFollow
-after-86 = refl
-
-pub after-91 : Place ((points ++ *91* ∷ []) ∷ (points ++ *91* ∷ *91* ∷ []) ∷ []) (*AA* ∷ *91* ∷ *92* ∷ *93* ∷ [])
-unfolding Place mayFollow
-after-91 = refl
-
-pub after-92 : Place ((points ++ *92* ∷ []) ∷ (points ++ *92* ∷ *92* ∷ []) ∷ (points ++ *91* ∷ *92* ∷ []) ∷ []) (*AA* ∷ *92* ∷ *93* ∷ [])
-unfolding Place mayFollow
-after-92 = refl
-
-pub after-93 : Place ((points ++ *93* ∷ []) ∷ (points ++ *91* ∷ *93* ∷ []) ∷ (points ++ *92* ∷ *93* ∷ []) ∷ []) (*AA* ∷ [])
-unfolding Place mayFollow
-after-93 = refl
-
-pub after-last-job : Place ((points ++ *AA* ∷ []) ∷ (points ++ *91* ∷ *AA* ∷ []) ∷ (points ++ *92* ∷ *AA* ∷ []) ∷ (points ++ *93* ∷ *AA* ∷ []) ∷ []) []
-unfolding Place mayFollow
-after-last-job = refl
+pub the-order : map found places ≡ map said places
+unfolding found said
+the-order = refl
 
 -- ---- other columns of a record after others
 pub data Case : Type 0 where
-  case : List ℕ → ℕ → ℕ → String → Verdict → Case  -- after records of these kinds; a record of this kind with this text from this column on; its verdict
+  case : (before : List ℕ) (kind from : ℕ) → String → Verdict → Case  -- after records of these kinds, a record of this kind with this text from this column on
 
 unfoldable pub caseFails : Case → Bool
 unfolding since recordOf laid sameVerdict
 caseFails (case ks k c s v) = not (sameVerdict (judgeLine chapter4 (since (map recordOf ks)) (laid c (ascii s) (recordOf k))) v)
 
-unfoldable pub failed : List Case → List ℕ
+-- the cases that come out otherwise
+unfoldable pub failed : List Case → List Case
 unfolding caseFails
 failed [] = []
-failed (x ∷ xs) = let rest = failed xs in cond (caseFails x) (0 ∷ rest) rest
+failed (x ∷ xs) = let rest = failed xs in cond (caseFails x) (x ∷ rest) rest
 
 -- the first record's job code, and no other
 pub last-job-code :
