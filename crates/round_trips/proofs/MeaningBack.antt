@@ -19,7 +19,7 @@ use Rattle.rules.proofs.Truth.{both, to≤, to≡, of≢, cases, to-within}
 use Rattle.columns.specs.Types.{natOf, intOf, heightOf, heightValue, mediaOf, mediaValue, four, fourOf}
 use Rattle.columns.proofs.LabelLaws.{four-back}
 use Rattle.kinds.specs.Values.{textOf, two, twoText, three, threeText, charOf, codeOf, valuesOf, meaningOf, recordFrom, recordOf}
-use Rattle.round_trips.specs.Texts.{longTexts}
+use Rattle.round_trips.specs.Texts.{isLong}
 
 -- ---- a value by way of the record's types
 -- a text of w columns
@@ -36,24 +36,10 @@ back month v = num (pos (natOf v))
 back media v = mediaValue (mediaOf v)
 back (word w t) v = text (backText w (textOf v))
 
--- whether its text is given beside the record
-unfoldable long : Item → Bool
-long (blank w) = false
-long (constant c) = false
-long (number w lo hi may) = false
-long (height w may) = false
-long (angle way) = false
-long month = false
-long media = false
-long (word w t) = 5 ≤? w
-
 -- ---- of a value that fits it is the value
-abbrev Short : Value → Type 0
-Short v = (vs : List Value) → longTexts (v ∷ vs) ≡ longTexts vs
-
-gap-back : (b : Bool) (v : Value) → onGap false b v ≡ true → (gap ≡ v) × Short v
-unfolding onGap longTexts
-gap-back b gap h = (refl, λ vs. refl)
+gap-back : (b : Bool) (v : Value) → onGap false b v ≡ true → gap ≡ v
+unfolding onGap
+gap-back b gap h = refl
 gap-back b missing h = absurd (false≢true h)
 gap-back b (num k) h = absurd (false≢true h)
 gap-back b (text t) h = absurd (false≢true h)
@@ -77,11 +63,11 @@ int-back f g (text t) h = absurd (false≢true h)
 int-back f g (label m d y s t) h = absurd (false≢true h)
 
 -- a number that may be missing
-height-back : (may : Bool) (f g : ℕ → Bool) (v : Value) → onNumber false may f g v ≡ true → (heightValue (heightOf v) ≡ v) × Short v
-unfolding onNumber heightValue heightOf longTexts
+height-back : (may : Bool) (f g : ℕ → Bool) (v : Value) → onNumber false may f g v ≡ true → heightValue (heightOf v) ≡ v
+unfolding onNumber heightValue heightOf
 height-back may f g gap h = absurd (false≢true h)
-height-back may f g missing h = (refl, λ vs. refl)
-height-back may f g (num k) h = (refl, λ vs. refl)
+height-back may f g missing h = refl
+height-back may f g (num k) h = refl
 height-back may f g (text t) h = absurd (false≢true h)
 height-back may f g (label m d y s t) h = absurd (false≢true h)
 
@@ -89,13 +75,13 @@ mark-four : (m d y s : ℕ) (t : List ℕ) → isMedia m d y s t ≡ true → le
 unfolding isMedia
 mark-four m d y s t h = to≡ (both (both h .1) .0)
 
-media-back : (v : Value) → onLabel false isMedia v ≡ true → (mediaValue (mediaOf v) ≡ v) × Short v
-unfolding onLabel mediaValue mediaOf longTexts
+media-back : (v : Value) → onLabel false isMedia v ≡ true → mediaValue (mediaOf v) ≡ v
+unfolding onLabel mediaValue mediaOf
 media-back gap h = absurd (false≢true h)
 media-back missing h = absurd (false≢true h)
 media-back (num k) h = absurd (false≢true h)
 media-back (text t) h = absurd (false≢true h)
-media-back (label m d y s t) h = (ap (label m d y s) (four-back t (mark-four m d y s t h)), λ vs. refl)
+media-back (label m d y s t) h = ap (label m d y s) (four-back t (mark-four m d y s t h))
 
 long-back : (n : ℕ) (t : List ℕ) → 5 ≤ n → backText n t ≡ t
 unfolding backText
@@ -115,29 +101,24 @@ text-back (a ∷ b ∷ c ∷ []) = refl
 text-back (a ∷ b ∷ c ∷ d ∷ []) = refl
 text-back (a ∷ b ∷ c ∷ d ∷ e ∷ t) = long-back (length (a ∷ b ∷ c ∷ d ∷ e ∷ t)) (a ∷ b ∷ c ∷ d ∷ e ∷ t) (omega arith)
 
--- whether its text is long, as its item says
-abbrev Kept : Item → Value → Type 0
-Kept i v = (vs : List Value) → longTexts (v ∷ vs) ≡ cond (long i) (textOf v ∷ longTexts vs) (longTexts vs)
-
-word-back : (w : ℕ) (p : List ℕ → Bool) (v : Value) → onText false (λ bs. length bs =? w & p bs) v ≡ true
-    → (text (backText w (textOf v)) ≡ v) × ((vs : List Value) → longTexts (v ∷ vs) ≡ cond (5 ≤? w) (textOf v ∷ longTexts vs) (longTexts vs))
-unfolding onText textOf longTexts
+word-back : (w : ℕ) (p : List ℕ → Bool) (v : Value) → onText false (λ bs. length bs =? w & p bs) v ≡ true → text (backText w (textOf v)) ≡ v
+unfolding onText textOf
 word-back w p gap h = absurd (false≢true h)
 word-back w p missing h = absurd (false≢true h)
 word-back w p (num k) h = absurd (false≢true h)
-word-back w p (text t) h = let e : length t ≡ w = to≡ (both h .0) in (rw (← e) (ap text (text-back t)), λ vs. rw e)
+word-back w p (text t) h = let e : length t ≡ w = to≡ (both h .0) in rw (← e) (ap text (text-back t))
 word-back w p (label m d y s t) h = absurd (false≢true h)
 
-fit-back : (i : Item) (v : Value) → fits i v ≡ true → (back i v ≡ v) × Kept i v
-unfolding fits back long
+fit-back : (i : Item) (v : Value) → fits i v ≡ true → back i v ≡ v
+unfolding fits back
 fit-back (blank w) v h = gap-back true v h
 fit-back (constant c) v h = gap-back _ v h
 fit-back (number w lo hi true) v h = height-back true _ _ v h
-fit-back (number w lo hi false) v h = (nat-back _ v h, height-back false _ _ v h .1)
+fit-back (number w lo hi false) v h = nat-back _ v h
 fit-back (height w true) v h = height-back true _ _ v h
-fit-back (height w false) v h = (int-back _ _ v h, height-back false _ _ v h .1)
-fit-back (angle way) v h = (int-back _ _ v h, height-back false _ _ v h .1)
-fit-back month v h = (nat-back _ v h, height-back false _ _ v h .1)
+fit-back (height w false) v h = int-back _ _ v h
+fit-back (angle way) v h = int-back _ _ v h
+fit-back month v h = nat-back _ v h
 fit-back media v h = media-back v h
 fit-back (word w t) v h = word-back w _ v h
 
@@ -146,27 +127,24 @@ unfoldable backs : List Field → (ℕ → Value) → List Value
 backs [] v = []
 backs (f ∷ fs) v = back (f .item) (v 0) ∷ backs fs (λ i. v (suc i))
 
-unfoldable texts : List Field → (ℕ → Value) → List (List ℕ)
+-- the long ones among them
+unfoldable pub texts : List Field → (ℕ → Value) → List (List ℕ)
 texts [] v = []
-texts (f ∷ fs) v = let rest = texts fs (λ i. v (suc i)) in cond (long (f .item)) (textOf (v 0) ∷ rest) rest
+texts (f ∷ fs) v = let rest = texts fs (λ i. v (suc i)) in cond (isLong (f .item)) (textOf (v 0) ∷ rest) rest
 
-all-back : (fs : List Field) (vs : List Value) → length vs ≡ length fs → formed (entriesOf fs vs) ≡ true
-    → (backs fs (λ i. getD vs i gap) ≡ vs) × (longTexts vs ≡ texts fs (λ i. getD vs i gap))
-unfolding formed all entriesOf isFormed given backs texts
-all-back [] [] e h = (refl, unfold longTexts in refl)
+all-back : (fs : List Field) (vs : List Value) → length vs ≡ length fs → formed (entriesOf fs vs) ≡ true → backs fs (λ i. getD vs i gap) ≡ vs
+unfolding formed all entriesOf isFormed given backs
+all-back [] [] e h = refl
 all-back [] (v ∷ vs) e h = absurd (omega (arith, e))
 all-back (f ∷ fs) [] e h = absurd (omega (arith, e))
-all-back (f ∷ fs) (v ∷ vs) e h =
-    let one = fit-back (f .item) v (both h .0) in
-    let rest = all-back fs vs (omega (arith, e)) (both h .1) in
-    (rw (one .0, rest .0), one .1 vs ∙ rw (rest .1))
+all-back (f ∷ fs) (v ∷ vs) e h = rw (fit-back (f .item) v (both h .0), all-back fs vs (omega (arith, e)) (both h .1))
 
 -- ---- for each number below n, and for all from n on
-unfoldable Upto : ℕ → (ℕ → Type 0) → Type 0
+unfoldable pub Upto : ℕ → (ℕ → Type 0) → Type 0
 Upto zero P = (k : ℕ) → P k
 Upto (suc n) P = P 0 × Upto n (λ k. P (suc k))
 
-upto : (n : ℕ) (P : ℕ → Type 0) → Upto n P → (k : ℕ) → P k
+pub upto : (n : ℕ) (P : ℕ → Type 0) → Upto n P → (k : ℕ) → P k
 unfolding Upto
 upto zero P h k = h k
 upto (suc n) P h zero = h .0
@@ -175,7 +153,7 @@ upto (suc n) P h (suc k) = upto n (λ i. P (suc i)) (h .1) k
 -- ---- of each kind: the values of its record are those that its fields give
 values-back : (k : ℕ) (c : List ℕ) (v : ℕ → Value)
     → let ts = texts (getD layouts k kept) v in valuesOf (recordFrom k c v) (getD ts 0 []) (getD ts 1 []) (getD ts 2 []) ≡ backs (getD layouts k kept) v
-unfolding Upto layouts kept titled project occupation comment measurement receiver aerial point heights at tied station instrument antenna initials state anyText metres letterOrBlank texts backs back long backText valuesOf recordFrom charOf _=?_ _≤?_
+unfolding Upto layouts kept titled project occupation comment measurement receiver aerial point heights at tied station instrument antenna initials state anyText metres letterOrBlank texts backs back isLong backText valuesOf recordFrom charOf _=?_ _≤?_
 values-back k c v =
     upto 14 (λ k. let ts = texts (getD layouts k kept) v in valuesOf (recordFrom k c v) (getD ts 0 []) (getD ts 1 []) (getD ts 2 []) ≡ backs (getD layouts k kept) v)
     (refl, (refl, (refl, (refl, (refl, (refl, (refl, (refl, (refl, (refl, (refl, (refl, (refl, (refl, (λ k. refl))))))))))))))) k
@@ -237,12 +215,15 @@ unfolding kindOf
 code-back c v h = cases (starred c) (λ e. rw e (starred-back c v e (rw e at h))) (λ e. absurd (omega (arith, (rw e at h))))
 
 -- ---- the whole
-pub meaning-back : (m : Meaning) → meant chapter4 m ≡ true
-    → let ts = longTexts (m .values) in meaningOf (recordOf m) (getD ts 0 []) (getD ts 1 []) (getD ts 2 []) ≡ m
+-- a meaning's long texts
+abbrev pub textsOf : Meaning → List (List ℕ)
+textsOf m = texts (layout (m .code)) (λ i. getD (m .values) i gap)
+
+pub meaning-back : (m : Meaning) → meant chapter4 m ≡ true → meaningOf (recordOf m) (getD (textsOf m) 0 []) (getD (textsOf m) 1 []) (getD (textsOf m) 2 []) ≡ m
 unfolding meant told knownCode meaningOf recordOf layout
 meaning-back m h =
-    let rows = all-back (getD layouts (kindOf (m .code)) kept) (m .values) (to≡ (both (both h .1) .0)) (both (both h .1) .1) in
     let v : ℕ → Value = λ i. getD (m .values) i gap in
+    let rows = all-back (getD layouts (kindOf (m .code)) kept) (m .values) (to≡ (both (both h .1) .0)) (both (both h .1) .1) in
     let code = code-back (m .code) v (to≤ (both h .0)) in
     let values = values-back (kindOf (m .code)) (m .code) v in
-    rw (code, rows .1, values, rows .0)
+    rw (code, values, rows)

@@ -1,4 +1,4 @@
--- What is read can be written: of the calls, from the promises of read and write alone.
+-- What is read can be written: of the calls, from the promises of read, field and write alone.
 use mathlib.Core.Path.{_≡_, refl, sym, ap, _∙_}
 use mathlib.Core.Bool.{Bool, true, false, cond}
 use mathlib.Core.List.{List, [], _∷_, _++_}
@@ -11,6 +11,7 @@ use Rattle.rules.specs.Items.{Value, gap, missing, num, text, label, valueOf, f
 use Rattle.rules.specs.Fields.{Verdict, ok, fault, check, _⨾_, isOk}
 use Rattle.rules.specs.Records.{Meaning, sequence, codeAt, readLine, meaning, judgeGiven, lineOf, formedLine, knownCode, meant}
 use Rattle.rules.specs.Kinds.{kindOf}
+use Rattle.rules.specs.Layouts.{layout}
 use Rattle.rules.specs.Files.{lineAt, begun}
 use Rattle.rules.specs.Calls.{readAs, readOf, writeVerdict, writeOutput}
 use Rattle.rules.specs.Chapter4.{chapter4}
@@ -27,8 +28,9 @@ use Rattle.kinds.specs.declared.Written.{Written}
 use Rattle.kinds.specs.Values.{sequenceOf, sequenceValue, kindNumber, recordFrom, recordOf, meaningOf, readingOf, writtenOf}
 use Rattle.kinds.proofs.TableLaws.{each-kind}
 use Rattle.writing.specs.Promise.{Promised}
-use Rattle.round_trips.specs.Texts.{longTexts}
-use Rattle.round_trips.proofs.MeaningBack.{meaning-back}
+use Rattle.round_trips.specs.Texts.{textColumns, textAt}
+use Rattle.round_trips.proofs.MeaningBack.{textsOf, meaning-back}
+use Rattle.round_trips.proofs.TextsBack.{text-in-line}
 
 -- a sequence number by way of its type
 number-back : (v : Value) → fits sequence v ≡ true → sequenceValue (sequenceOf v) ≡ v
@@ -57,29 +59,26 @@ module _ (s : Sequence) (w : Record) where
   taken-as n l ok e = record { reads = refl; number = cc; values = cc }
   taken-as n l (fault a b) e = record { reads = cc; number = cc; values = cc }
 
-  taken : (file : List ℕ) (n : ℕ) → Reading.Values s w ≡ readingOf (readOf file n) → Taken (lineAt file (n - 1)) (readLine chapter4 (lineAt file (n - 1)))
+  begun-there : (file : List ℕ) (n : ℕ) → Reading.Values s w ≡ readingOf (readOf file n) → within 1 99_999 n & n ≤? begun file ≡ true
   unfolding readOf readingOf
-  taken file n e =
+  begun-there file n e =
       cases (within 1 99_999 n & n ≤? begun file)
-      (λ h. taken-as n (lineAt file (n - 1)) (readLine chapter4 (lineAt file (n - 1))) (e ∙ rw h refl))
-      (λ h. let clash : Reading.Values s w ≡ Reading.Refused record { number = 13; «record» = n; column = 0 } = e ∙ rw h refl in record { reads = cc; number = cc; values = cc })
+      (λ h. h)
+      (λ h. let clash : Reading.Values s w ≡ Reading.Refused record { number = 13; «record» = n; column = 0 } = e ∙ rw h refl in cc)
+
+  taken : (file : List ℕ) (n : ℕ) → Reading.Values s w ≡ readingOf (readOf file n) → Taken (lineAt file (n - 1)) (readLine chapter4 (lineAt file (n - 1)))
+  unfolding readOf
+  taken file n e = taken-as n (lineAt file (n - 1)) (readLine chapter4 (lineAt file (n - 1))) (e ∙ rw (begun-there file n e) refl)
 
 module _ (file : List ℕ) (n : ℕ) (s : Sequence) (w : Record) (promised : Reading.Values s w ≡ readingOf (readOf file n)) where
   abbrev line : List ℕ
   line = lineAt file (n - 1)
-
-  -- the record's texts of more than four columns, in column order
-  abbrev texts : List (List ℕ)
-  texts = longTexts (meaning chapter4 line .values)
 
   reads : isOk (readLine chapter4 line) ≡ true
   reads = taken s w file n promised .reads
 
   is-formed : formedLine chapter4 line ≡ true
   is-formed = both (sym (readLine-splits chapter4 line) ∙ reads) .0
-
-  same-meaning : meaningOf w (getD texts 0 []) (getD texts 1 []) (getD texts 2 []) ≡ meaning chapter4 line
-  same-meaning = rw (taken s w file n promised .values) (meaning-back (meaning chapter4 line) (line-meant chapter4 line is-formed))
 
   same-number : sequenceValue s ≡ valueOf sequence (take 6 line)
   same-number =
@@ -92,24 +91,33 @@ module _ (file : List ℕ) (n : ℕ) (s : Sequence) (w : Record) (promised : Rea
       ap kindNumber (taken s w file n promised .values)
       ∙ kind-from (kindOf (codeAt line)) (codeAt line) (λ i. getD (meaning chapter4 line .values) i gap) (to≤ (both (line-meant chapter4 line is-formed) .0))
 
-  -- with room for a record, the values and texts that were read are taken
-  is-taken : (out : List ℕ) → 81 ≤ length out
-      → isOk (writeVerdict (length out) (kindNumber w) (sequenceValue s) (meaningOf w (getD texts 0 []) (getD texts 1 []) (getD texts 2 []))) ≡ true
-  unfolding writeVerdict
-  is-taken out room =
-      rw (same-kind, same-number, same-meaning)
-      (isOk-⨾ (check (81 ≤? length out) 1 0) (judgeGiven chapter4 (kindOf (codeAt line)) (valueOf sequence (take 6 line)) (meaning chapter4 line))
-      ∙ and (isOk-check (81 ≤? length out) 1 0 ∙ of≤ room) (laws.read-writes-back chapter4 line reads))
+  -- the record's texts, as field gives them at their columns
+  same-text : (i : ℕ) → getD (textsOf (meaning chapter4 line)) i [] ≡ textAt file n w i
+  unfolding textAt
+  same-text i = text-in-line file n (begun-there s w file n promised) reads i ∙ (unfold textColumns layout in rw same-kind refl)
 
-  is-done : (v : Verdict) → isOk v ≡ true → writtenOf v ≡ Written.Done
-  unfolding isOk writtenOf
-  is-done ok h = refl
-  is-done (fault a b) h = cc
+  module _ (x y z : List ℕ) (first : x ≡ textAt file n w 0) (second : y ≡ textAt file n w 1) (third : z ≡ textAt file n w 2) where
+    same-meaning : meaningOf w x y z ≡ meaning chapter4 line
+    same-meaning =
+        rw (first, second, third, ← same-text 0, ← same-text 1, ← same-text 2, taken s w file n promised .values)
+        (meaning-back (meaning chapter4 line) (line-meant chapter4 line is-formed))
 
-  -- every answer that write's promise allows is Done, with the record in house style under the sequence number that it had
-  pub read-writes-back : (out : List ℕ) → 81 ≤ length out → (r : Written) (left : List ℕ)
-      → Promised s w (getD texts 0 []) (getD texts 1 []) (getD texts 2 []) out r left
-      → (r ≡ Written.Done) × (left ≡ lineOf chapter4 (valueOf sequence (take 6 line)) (meaning chapter4 line) ++ drop 81 out)
-  unfolding writeOutput
-  read-writes-back out room r left p =
-      (p .answer ∙ is-done _ (is-taken out room), p .output ∙ rw (is-taken out room) (rw (same-number, same-meaning) refl))
+    -- with room for a record, the values and texts that were read are taken
+    is-taken : (out : List ℕ) → 81 ≤ length out → isOk (writeVerdict (length out) (kindNumber w) (sequenceValue s) (meaningOf w x y z)) ≡ true
+    unfolding writeVerdict
+    is-taken out room =
+        rw (same-kind, same-number, same-meaning)
+        (isOk-⨾ (check (81 ≤? length out) 1 0) (judgeGiven chapter4 (kindOf (codeAt line)) (valueOf sequence (take 6 line)) (meaning chapter4 line))
+        ∙ and (isOk-check (81 ≤? length out) 1 0 ∙ of≤ room) (laws.read-writes-back chapter4 line reads))
+
+    is-done : (v : Verdict) → isOk v ≡ true → writtenOf v ≡ Written.Done
+    unfolding isOk writtenOf
+    is-done ok h = refl
+    is-done (fault a b) h = cc
+
+    -- every answer that write's promise allows for what read and field gave is Done, with the record in house style under the sequence number that it had
+    pub read-writes-back : (out : List ℕ) → 81 ≤ length out → (r : Written) (left : List ℕ) → Promised s w x y z out r left
+        → (r ≡ Written.Done) × (left ≡ lineOf chapter4 (valueOf sequence (take 6 line)) (meaning chapter4 line) ++ drop 81 out)
+    unfolding writeOutput
+    read-writes-back out room r left p =
+        (p .answer ∙ is-done _ (is-taken out room), p .output ∙ rw (is-taken out room) (rw (same-number, same-meaning) refl))
