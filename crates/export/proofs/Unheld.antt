@@ -29,12 +29,17 @@ pub layouts-refuse : all (λ fs. all (λ f. refuses (f .item)) fs) layouts ≡ t
 unfolding refuses all fits onNumber member isPrintable isBlank isDigit isLetter isTitle anyOf titleMarks ascii top isMonth within _&_ _≤?_ _=?_ L.at L.tied L.station L.instrument L.antenna L.initials L.state L.anyText L.metres L.letterOrBlank L.kept L.titled L.project L.occupation L.comment L.measurement L.receiver L.aerial L.point L.heights layouts
 layouts-refuse = refl
 
+-- and so where there is no such kind
+pub kept-refuses : all (λ f. refuses (f .item)) L.kept ≡ true
+unfolding refuses all member isPrintable within _&_ _≤?_ L.at L.anyText L.kept
+kept-refuses = refl
+
 pub sequence-refuses : refuses sequence ≡ true
 unfolding refuses fits onNumber sequence within _&_ _≤?_
 sequence-refuses = refl
 
 -- ---- a character among others, and the parts of a media identifier
-no-and : (a : Bool) → a & false ≡ false
+pub no-and : (a : Bool) → a & false ≡ false
 unfolding _&_
 no-and true = refl
 no-and false = refl

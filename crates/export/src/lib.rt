@@ -14,19 +14,12 @@ use reading::read;
 use rewriting::rewrite;
 use walk::check;
 use writing::write;
-ghost use mathlib.Core.Path.{_≡_};
-ghost use lib.ListN.{length};
-ghost use Rattle.rules.specs.Calls.{checkAnswer, checkTable, rewriteAnswer, rewriteTable, rewriteOutput, readOf, writeVerdict, writeOutput};
-ghost use Rattle.kinds.specs.Values.{kindNumber, sequenceValue, meaningOf, checkedOf, readingOf, writtenOf};
-ghost use Rattle.export.specs.Answers.{answered, touched, checkWords, fieldWords};
-ghost use Rattle.export.specs.Words.{readWords};
-ghost use Rattle.export.specs.Given.{given, sequenceGiven, writtenWords};
+ghost use Rattle.export.specs.Promise.{Checks, Rewrites, Reads, Finds, Writes};
 
 // number, record, column, and the fourteen counts.
 #[no_mangle]
 pub extern "C" fn shelf_check(file: &[u8], table: &mut [u32], answer: &mut [u32])
-    ensures answer { λ _. ⌜ now (answer .exit) ≡ answered 17 (checkWords (checkedOf (checkAnswer (now (file .entry)) (now (table .entry))))) (now (answer .entry)) ⌝ }
-    ensures table { λ _. ⌜ now (table .exit) ≡ touched 17 (now (answer .entry)) (checkTable (now (file .entry)) (now (table .entry))) (now (table .entry)) ⌝ }
+    ensures { λ _. ⌜ Checks (now (file .entry)) (now (table .entry)) (now (answer .entry)) (now (table .exit)) (now (answer .exit)) ⌝ }
 {
     if answer.len() < 17 {
         return;
@@ -38,9 +31,7 @@ pub extern "C" fn shelf_check(file: &[u8], table: &mut [u32], answer: &mut [u32]
 // The same of a rewriting.
 #[no_mangle]
 pub extern "C" fn shelf_rewrite(file: &[u8], table: &mut [u32], out: &mut [u8], answer: &mut [u32])
-    ensures answer { λ _. ⌜ now (answer .exit) ≡ answered 17 (checkWords (checkedOf (rewriteAnswer (now (file .entry)) (now (table .entry)) (now (out .entry))))) (now (answer .entry)) ⌝ }
-    ensures table { λ _. ⌜ now (table .exit) ≡ touched 17 (now (answer .entry)) (rewriteTable (now (file .entry)) (now (table .entry)) (now (out .entry))) (now (table .entry)) ⌝ }
-    ensures out { λ _. ⌜ now (out .exit) ≡ touched 17 (now (answer .entry)) (rewriteOutput (now (file .entry)) (now (table .entry)) (now (out .entry))) (now (out .entry)) ⌝ }
+    ensures { λ _. ⌜ Rewrites (now (file .entry)) (now (table .entry)) (now (out .entry)) (now (answer .entry)) (now (table .exit)) (now (out .exit)) (now (answer .exit)) ⌝ }
 {
     if answer.len() < 17 {
         return;
@@ -52,7 +43,7 @@ pub extern "C" fn shelf_rewrite(file: &[u8], table: &mut [u32], out: &mut [u8], 
 // Where a field starts in the file, and its width.
 #[no_mangle]
 pub extern "C" fn shelf_field(file: &[u8], record: u32, column: u32, answer: &mut [u64])
-    ensures { λ _. ⌜ now (answer .exit) ≡ answered 2 (fieldWords (now (file .entry)) «record» column) (now (answer .entry)) ⌝ }
+    ensures { λ _. ⌜ Finds (now (file .entry)) «record» column (now (answer .entry)) (now (answer .exit)) ⌝ }
 {
     if answer.len() < 2 {
         return;
@@ -72,7 +63,7 @@ pub extern "C" fn shelf_field(file: &[u8], record: u32, column: u32, answer: &mu
 // number, record, column, kind, sequence number and values of one record.
 #[no_mangle]
 pub extern "C" fn shelf_read(file: &[u8], record: u32, answer: &mut [i64])
-    ensures { λ _. ⌜ now (answer .exit) ≡ answered 32 (readWords (readingOf (readOf (now (file .entry)) «record»))) (now (answer .entry)) ⌝ }
+    ensures { λ _. ⌜ Reads (now (file .entry)) «record» (now (answer .entry)) (now (answer .exit)) ⌝ }
 {
     if answer.len() < 32 {
         return;
@@ -91,8 +82,7 @@ pub extern "C" fn shelf_write(
     third: &[u8],
     answer: &mut [u32],
 )
-    ensures answer { λ _. ⌜ now (answer .exit) ≡ answered 3 (writtenWords (writtenOf (writeVerdict (length (now (out .entry))) (kindNumber (given (now (values .entry)))) (sequenceValue (sequenceGiven (now (values .entry)))) (meaningOf (given (now (values .entry))) (now (first .entry)) (now (second .entry)) (now (third .entry)))))) (now (answer .entry)) ⌝ }
-    ensures out { λ _. ⌜ now (out .exit) ≡ touched 3 (now (answer .entry)) (writeOutput (kindNumber (given (now (values .entry)))) (sequenceValue (sequenceGiven (now (values .entry)))) (meaningOf (given (now (values .entry))) (now (first .entry)) (now (second .entry)) (now (third .entry))) (now (out .entry))) (now (out .entry)) ⌝ }
+    ensures { λ _. ⌜ Writes (now (out .entry)) (now (values .entry)) (now (first .entry)) (now (second .entry)) (now (third .entry)) (now (answer .entry)) (now (out .exit)) (now (answer .exit)) ⌝ }
 {
     if answer.len() < 3 {
         return;

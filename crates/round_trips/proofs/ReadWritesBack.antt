@@ -1,7 +1,7 @@
 -- What is read can be written: of the calls, from the promises of read, field and write alone.
 use mathlib.Core.Path.{_≡_, refl, sym, ap, _∙_}
-use mathlib.Core.Bool.{Bool, true, false, cond}
-use mathlib.Core.List.{List, [], _∷_, _++_}
+use mathlib.Core.Bool.{true}
+use mathlib.Core.List.{List, [], _++_}
 use Prim.Native.Nat.{ℕ, _+_, _-_, _≤_}
 use native.Mathlib.Omega.{arith}
 use lib.ListN.{length, getD, take, drop}
@@ -9,7 +9,7 @@ use lib.IntN.{pos, negsuc}
 use Rattle.rules.specs.Tests.{_&_, _≤?_, within}
 use Rattle.rules.specs.Items.{Value, gap, missing, num, text, label, valueOf, fits, onNumber}
 use Rattle.rules.specs.Fields.{Verdict, ok, fault, check, _⨾_, isOk}
-use Rattle.rules.specs.Records.{Meaning, sequence, codeAt, readLine, meaning, judgeGiven, lineOf, formedLine, knownCode, meant}
+use Rattle.rules.specs.Records.{sequence, codeAt, readLine, meaning, judgeGiven, lineOf, formedLine, knownCode, meant}
 use Rattle.rules.specs.Kinds.{kindOf}
 use Rattle.rules.specs.Layouts.{layout}
 use Rattle.rules.specs.Files.{lineAt, begun}

@@ -1,13 +1,13 @@
 -- A record's long texts are what `field` gives at their columns: of every record that reads.
 use mathlib.Core.Path.{_≡_, refl, sym, ap, _∙_}
-use mathlib.Core.Bool.{Bool, true, false, cond}
+use mathlib.Core.Bool.{true}
 use mathlib.Core.List.{List, [], _∷_, map}
-use Prim.Native.Nat.{ℕ, zero, suc, _+_, _-_, _*_, _≤_, _<_}
+use Prim.Native.Nat.{ℕ, zero, suc, _+_, _-_, _*_, _≤_}
 use native.Mathlib.Omega.{arith}
-use lib.ListN.{length, getD, take, drop, List·getD-map}
+use lib.ListN.{getD, take, drop, List·getD-map}
 use lib.Seq.{take-take, drop-drop}
 use Rattle.rules.specs.Tests.{_&_, _≤?_, _=?_, within}
-use Rattle.rules.specs.Items.{Value, gap, valueOf, width, columns, parts}
+use Rattle.rules.specs.Items.{gap, valueOf, width, columns, parts}
 use Rattle.rules.specs.Fields.{Field, Verdict, ok, fault, isOk, columnsOf, values}
 use Rattle.rules.specs.Records.{codeAt, readLine, meaning}
 use Rattle.rules.specs.Files.{lineAt, begun}
@@ -18,7 +18,7 @@ use Rattle.rules.specs.Chapter4.{chapter4}
 use Rattle.rules.proofs.Truth.{to≡, no≡, above-0, cases}
 use Rattle.rules.proofs.Chapter4Laws.{layout-covers}
 use Rattle.kinds.specs.Values.{textOf}
-use Rattle.reading.proofs.CallLaws.{inside, some-offset}
+use Rattle.reading.proofs.CallLaws.{some-offset}
 use Rattle.reading.proofs.WidthLaws.{field-inside}
 use Rattle.round_trips.specs.Texts.{isLong, longColumns}
 use Rattle.round_trips.proofs.MeaningBack.{texts, textsOf, Upto, upto}

@@ -1,13 +1,13 @@
 -- 01, "a record written from values reads back as those values": of the calls, from the promises of write, read and field alone.
 use mathlib.Core.Path.{_≡_, refl, sym, ap, _∙_}
-use mathlib.Core.Bool.{Bool, true, false, cond}
-use mathlib.Core.List.{List, [], _∷_, _++_}
-use Prim.Native.Nat.{ℕ, _+_, _-_, _<_}
+use mathlib.Core.Bool.{true}
+use mathlib.Core.List.{List, [], _∷_}
+use Prim.Native.Nat.{ℕ, _-_, _<_}
 use native.Mathlib.Omega.{arith}
 use lib.Seq.{take-all, getD-take}
-use lib.ListN.{length, take, drop, getD}
+use lib.ListN.{length, take, getD}
 use Rattle.rules.specs.Tests.{_&_, _≤?_, within}
-use Rattle.rules.specs.Items.{Value, gap, valueOf}
+use Rattle.rules.specs.Items.{gap, valueOf}
 use Rattle.rules.specs.Fields.{Verdict, ok, fault, isOk}
 use Rattle.rules.specs.Records.{sequence, codeAt, readLine, meaning}
 use Rattle.rules.specs.Files.{lineAt, begun}

@@ -1,5 +1,5 @@
 use Rattle.export.proofs.Places.{check-counted}
-use Rattle.export.proofs.AnswerLaws.{short-answer, untouched, check-answer, long-touched}
+use Rattle.export.proofs.PromiseLaws.{short-check, long-check}
 use borrow.Author.Needs.{needs}
 use Rattle.export.proofs.shelf_check.Statement.{statement}
 use Rattle.export.proofs.shelf_check.Tie as tie
@@ -10,7 +10,7 @@ use Rattle.walk.proofs.check.Reads as check-reads
 
 -- src/lib.rt:24:9
 returns : tie.Need-returns
-returns c = search (short-answer, untouched, needs)
+returns c = search (short-check, needs)
 
 -- src/lib.rt:26:9
 check-requires : tie.Need-check-requires
@@ -42,7 +42,7 @@ same-length-2 c = search needs
 
 -- src/lib.rt:18:1
 returns-2 : tie.Need-returns-2
-returns-2 c = search (check-answer, long-touched, needs)
+returns-2 c = search (long-check, needs)
 
 pub shelf-check-spec : {M : Type 1} → statement M
 shelf-check-spec =

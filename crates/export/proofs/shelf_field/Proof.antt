@@ -1,4 +1,5 @@
-use Rattle.export.proofs.AnswerLaws.{short-answer, field-none, field-some, field-row, field-column}
+use Rattle.export.proofs.AnswerLaws.{field-row, field-column}
+use Rattle.export.proofs.PromiseLaws.{short-field, none-found, some-found}
 use borrow.Author.Needs.{needs}
 use Rattle.export.proofs.shelf_field.Statement.{statement}
 use Rattle.export.proofs.shelf_field.Tie as tie
@@ -8,7 +9,7 @@ use Rattle.reading.proofs.field.Reads as field-reads
 
 -- src/lib.rt:50:9
 returns : tie.Need-returns
-returns c = search (short-answer, needs)
+returns c = search (short-field, needs)
 
 -- src/lib.rt:54:13
 field-requires : tie.Need-field-requires
@@ -28,7 +29,7 @@ same-length c = search needs
 
 -- src/lib.rt:58:9
 returns-2 : tie.Need-returns-2
-returns-2 c = search (field-none, needs)
+returns-2 c = search (none-found, needs)
 
 -- src/lib.rt:60:24
 sub-answer : tie.Need-sub-answer
@@ -60,7 +61,7 @@ same-length-2 c = search needs
 
 -- src/lib.rt:45:1
 returns-3 : tie.Need-returns-3
-returns-3 c = search (field-some, needs)
+returns-3 c = search (some-found, needs)
 
 pub shelf-field-spec : {M : Type 1} → statement M
 shelf-field-spec =

@@ -1,5 +1,4 @@
-use Rattle.export.proofs.AnswerLaws.{short-answer}
-use Rattle.export.proofs.WordLaws.{read-answer}
+use Rattle.export.proofs.PromiseLaws.{short-read, long-read}
 use Rattle.export.proofs.Places.{read-told}
 use borrow.Author.Needs.{needs}
 use Rattle.export.proofs.shelf_read.Statement.{statement}
@@ -11,7 +10,7 @@ use Rattle.reading.proofs.read.Reads as read-reads
 
 -- src/lib.rt:72:9
 returns : tie.Need-returns
-returns c = search (short-answer, needs)
+returns c = search (short-read, needs)
 
 -- src/lib.rt:74:9
 read-requires : tie.Need-read-requires
@@ -39,7 +38,7 @@ same-length c = search needs
 
 -- src/lib.rt:67:1
 returns-2 : tie.Need-returns-2
-returns-2 c = search (read-answer, needs)
+returns-2 c = search (long-read, needs)
 
 pub shelf-read-spec : {M : Type 1} → statement M
 shelf-read-spec =

@@ -1,5 +1,5 @@
 use Rattle.export.proofs.Places.{rewrite-counted}
-use Rattle.export.proofs.AnswerLaws.{short-answer, untouched, check-answer, long-touched}
+use Rattle.export.proofs.PromiseLaws.{short-rewrite, long-rewrite}
 use borrow.Author.Needs.{needs}
 use Rattle.export.proofs.shelf_rewrite.Statement.{statement}
 use Rattle.export.proofs.shelf_rewrite.Tie as tie
@@ -10,7 +10,7 @@ use Rattle.rewriting.proofs.rewrite.Reads as rewrite-reads
 
 -- src/lib.rt:38:9
 returns : tie.Need-returns
-returns c = search (short-answer, untouched, needs)
+returns c = search (short-rewrite, needs)
 
 -- src/lib.rt:40:9
 rewrite-requires : tie.Need-rewrite-requires
@@ -46,7 +46,7 @@ same-length-3 c = search needs
 
 -- src/lib.rt:31:1
 returns-2 : tie.Need-returns-2
-returns-2 c = search (check-answer, long-touched, needs)
+returns-2 c = search (long-rewrite, needs)
 
 pub shelf-rewrite-spec : {M : Type 1} → statement M
 shelf-rewrite-spec =

@@ -1,6 +1,5 @@
-use Rattle.export.proofs.GivenLaws.{write-left}
-use Rattle.export.proofs.AnswerLaws.{short-answer, untouched, long-touched}
-use Rattle.export.proofs.GivenLaws.{written-noted, write-answer}
+use Rattle.export.proofs.GivenLaws.{written-noted}
+use Rattle.export.proofs.PromiseLaws.{short-write, long-write}
 use borrow.Author.Needs.{needs}
 use Rattle.export.proofs.shelf_write.Statement.{statement}
 use Rattle.export.proofs.shelf_write.Tie as tie
@@ -13,7 +12,7 @@ use Rattle.writing.proofs.write.Reads as write-reads
 
 -- src/lib.rt:98:9
 returns : tie.Need-returns
-returns c = search (short-answer, untouched, needs)
+returns c = search (short-write, needs)
 
 -- src/lib.rt:102:9
 give-sequence-requires : tie.Need-give-sequence-requires
@@ -53,7 +52,7 @@ same-length-2 c = search needs
 
 -- src/lib.rt:85:1
 returns-2 : tie.Need-returns-2
-returns-2 c = search (write-answer, write-left, needs)
+returns-2 c = search (long-write, needs)
 
 pub shelf-write-spec : {M : Type 1} → statement M
 shelf-write-spec =

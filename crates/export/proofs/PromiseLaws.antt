@@ -1,0 +1,66 @@
+-- Each call's promise, for each way through it. What the inner calls promise is cited here and in Places.
+use mathlib.Core.Path.{_≡_}
+use mathlib.Core.List.{List, _++_}
+use Prim.Native.Nat.{ℕ, _+_, _-_, _*_, _≤_, _<_}
+use lib.ListN.{length, drop, set}
+use lib.IntN.{ℤ}
+use Rattle.rules.specs.Calls.{checkAnswer, checkTable, rewriteAnswer, rewriteTable, rewriteOutput, readOf, fieldOf, writeVerdict, writeOutput}
+use Rattle.kinds.specs.declared.Sequence.{Sequence}
+use Rattle.kinds.specs.declared.Record.{Record}
+use Rattle.kinds.specs.declared.Checked.{Checked}
+use Rattle.kinds.specs.declared.Reading.{Reading}
+use Rattle.kinds.specs.declared.Written.{Written}
+use Rattle.kinds.specs.Values.{kindNumber, sequenceValue, meaningOf, checkedOf, readingOf, writtenOf}
+use Rattle.export.specs.Answers.{touched, checkWords}
+use Rattle.export.specs.Words.{readWords}
+use Rattle.export.specs.Given.{given, sequenceGiven, writtenWords}
+use Rattle.export.specs.Promise.{Checks, Rewrites, Reads, Finds, wordsVerdict, wordsOutput, Writes}
+use Rattle.export.proofs.AnswerLaws.{short-answer, untouched, long-touched, check-answer, field-none, field-some}
+use Rattle.export.proofs.WordLaws.{read-answer}
+use Rattle.export.proofs.GivenLaws.{write-answer, write-left}
+
+-- ---- too short an answer
+module _ (a : List ℕ) where
+  pub short-check : length a < 17 → (f t : List ℕ) → Checks f t a t a
+  short-check h f t = let same : t ≡ touched 17 a (checkTable f t) t = untouched 17 a h _ t in record { answer = short-answer 17 a h _; table = cc }
+
+  pub short-rewrite : length a < 17 → (f t o : List ℕ) → Rewrites f t o a t o a
+  short-rewrite h f t o = record { answer = short-answer 17 a h _; table = untouched 17 a h _ t; out = untouched 17 a h _ o }
+
+  pub short-field : length a < 2 → (f : List ℕ) (r c : ℕ) → Finds f r c a a
+  short-field h f r c = record { answer = short-answer 2 a h _ }
+
+  pub short-write : length a < 3 → (o : List ℕ) (ws : List ℤ) (x y z : List ℕ) → Writes o ws x y z a o a
+  short-write h o ws x y z = let same : o ≡ touched 3 a (wordsOutput ws x y z o) o = untouched 3 a h _ o in record { answer = short-answer 3 a h _; out = cc }
+
+pub short-read : (a : List ℤ) → length a < 32 → (f : List ℕ) (r : ℕ) → Reads f r a a
+short-read a h f r = record { answer = short-answer 32 a h _ }
+
+-- ---- one that is long enough, by what the inner call promises
+pub long-check : (f t a : List ℕ) → 17 ≤ length a → (v : Checked) → v ≡ checkedOf (checkAnswer f t) → (u : List ℕ) → u ≡ checkTable f t
+    → (w : List ℕ) → w ≡ checkWords v → Checks f t a u (w ++ drop 17 a)
+long-check f t a h v p u q w e =
+    let same : u ≡ touched 17 a (checkTable f t) t = long-touched 17 a h u _ t q in record { answer = check-answer a h v _ p w e; table = cc }
+
+pub long-rewrite : (f t o a : List ℕ) → 17 ≤ length a → (v : Checked) → v ≡ checkedOf (rewriteAnswer f t o) → (u : List ℕ) → u ≡ rewriteTable f t o
+    → (p : List ℕ) → p ≡ rewriteOutput f t o → (w : List ℕ) → w ≡ checkWords v → Rewrites f t o a u p (w ++ drop 17 a)
+long-rewrite f t o a h v x u y p z w e = record { answer = check-answer a h v _ x w e; table = long-touched 17 a h u _ t y; out = long-touched 17 a h p _ o z }
+
+pub long-read : (f : List ℕ) (r : ℕ) (a : List ℤ) → 32 ≤ length a → (v : Reading) → v ≡ readingOf (readOf f r) → (w : List ℤ) → w ≡ readWords v → Reads f r a (w ++ drop 32 a)
+long-read f r a h v p w e = record { answer = read-answer a h v _ p w e }
+
+module _ (f : List ℕ) (r c : ℕ) (a : List ℕ) (h : 2 ≤ length a) (p : List ℕ) (e : p ≡ fieldOf f r c) where
+  pub none-found : length p ≡ 0 → Finds f r c a (set (set a 0 0) 1 0)
+  none-found z = record { answer = field-none f r c a h p e z }
+
+  pub some-found : (length p ≡ 0 → ⊥) → Finds f r c a (set (set a 0 (81 * (r - 1) + (c - 1))) 1 (length p))
+  some-found z = record { answer = field-some f r c a h p e z }
+
+pub long-write : (o : List ℕ) (ws : List ℤ) (x y z a : List ℕ) → 3 ≤ length a → (s : Sequence) → s ≡ sequenceGiven ws → (r : Record) → r ≡ given ws
+    → (v : Written) → v ≡ writtenOf (writeVerdict (length o) (kindNumber r) (sequenceValue s) (meaningOf r x y z))
+    → (p : List ℕ) → p ≡ writeOutput (kindNumber r) (sequenceValue s) (meaningOf r x y z) o
+    → (w : List ℕ) → w ≡ writtenWords v → Writes o ws x y z a p (w ++ drop 3 a)
+unfolding wordsVerdict wordsOutput
+long-write o ws x y z a h s i r j v k p l w e =
+    let same : p ≡ touched 3 a (wordsOutput ws x y z o) o = write-left ws x y z a r s h i j o p l in
+    record { answer = write-answer ws x y z a r s h i j (length o) v w k e; out = cc }

@@ -1,0 +1,43 @@
+-- The promise of each call: what it leaves in all that is lent to it, by what stood there before. The calls' `ensures` cite these records.
+use mathlib.Core.Path.{_≡_}
+use mathlib.Core.List.{List}
+use Prim.Native.Nat.{ℕ}
+use lib.ListN.{length}
+use lib.IntN.{ℤ}
+use Rattle.rules.specs.Fields.{Verdict}
+use Rattle.rules.specs.Calls.{checkAnswer, checkTable, rewriteAnswer, rewriteTable, rewriteOutput, readOf, writeVerdict, writeOutput}
+use Rattle.kinds.specs.Values.{kindNumber, sequenceValue, meaningOf, checkedOf, readingOf, writtenOf}
+use Rattle.export.specs.Answers.{answered, touched, checkWords, fieldWords}
+use Rattle.export.specs.Words.{readWords}
+use Rattle.export.specs.Given.{given, sequenceGiven, writtenWords}
+
+-- of a file f, a table t and an answer a: the table u and the answer b
+pub record Checks (f t a u b : List ℕ) : Type 0 where
+  pub answer : b ≡ answered 17 (checkWords (checkedOf (checkAnswer f t))) a
+  pub table : u ≡ touched 17 a (checkTable f t) t
+
+-- and of an output o: the output p
+pub record Rewrites (f t o a u p b : List ℕ) : Type 0 where
+  pub answer : b ≡ answered 17 (checkWords (checkedOf (rewriteAnswer f t o))) a
+  pub table : u ≡ touched 17 a (rewriteTable f t o) t
+  pub out : p ≡ touched 17 a (rewriteOutput f t o) o
+
+-- of a file f and record r
+pub record Reads (f : List ℕ) (r : ℕ) (a b : List ℤ) : Type 0 where
+  pub answer : b ≡ answered 32 (readWords (readingOf (readOf f r))) a
+
+-- and column c
+pub record Finds (f : List ℕ) (r c : ℕ) (a b : List ℕ) : Type 0 where
+  pub answer : b ≡ answered 2 (fieldWords f r c) a
+
+-- the verdict on values ws and texts x y z, with room for so many bytes
+unfoldable pub wordsVerdict : ℕ → List ℤ → (x y z : List ℕ) → Verdict
+wordsVerdict room ws x y z = writeVerdict room (kindNumber (given ws)) (sequenceValue (sequenceGiven ws)) (meaningOf (given ws) x y z)
+
+unfoldable pub wordsOutput : List ℤ → (x y z : List ℕ) → List ℕ → List ℕ
+wordsOutput ws x y z o = writeOutput (kindNumber (given ws)) (sequenceValue (sequenceGiven ws)) (meaningOf (given ws) x y z) o
+
+-- of an output o, values ws and texts x y z
+pub record Writes (o : List ℕ) (ws : List ℤ) (x y z a p b : List ℕ) : Type 0 where
+  pub answer : b ≡ answered 3 (writtenWords (writtenOf (wordsVerdict (length o) ws x y z))) a
+  pub out : p ≡ touched 3 a (wordsOutput ws x y z o) o
