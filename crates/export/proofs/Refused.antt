@@ -8,15 +8,16 @@ use lib.ListN.{length, getD, take, drop}
 use lib.IntN.{ℤ, pos, negsuc}
 use Rattle.rules.specs.Tests.{_&_, _≤?_, _=?_, within, all}
 use Rattle.rules.specs.Characters.{isPrintable, isBlank, member}
-use Rattle.rules.specs.Items.{Value, Way, gap, num, text, Item, blank, constant, number, height, angle, month, media, word, Test, each, orBlank, passes, isMedia, onText, onLabel, fits}
-use Rattle.rules.specs.Fields.{Field, Expect, anything, Verdict, ok, fault, check, _⨾_, isOk, Entry, given, entriesOf, agrees, judgeEach, judge}
+use Rattle.rules.specs.Items.{Value, Way, width, gap, num, text, Item, blank, constant, number, height, angle, month, media, word, Test, each, orBlank, passes, isMedia, onText, onLabel, fits}
+use Rattle.rules.specs.Fields.{Field, Expect, anything, Verdict, ok, fault, check, _⨾_, isOk, Entry, given, entriesOf, agrees, judgeEach, judge, covers}
 use Rattle.rules.specs.Records.{Meaning, sequence, knownCode, told, ofKind, judgeGiven}
 use Rattle.rules.specs.Kinds.{kindOf}
 use Rattle.rules.specs.Layouts.{at, tied, station, instrument, antenna, initials, state, anyText, metres, letterOrBlank, kept, titled, project, occupation, comment, measurement, receiver, aerial, point, heights, layouts, layout}
 use Rattle.rules.specs.Calls.{writeVerdict, writeOutput}
 use Rattle.rules.specs.Chapter4.{chapter4}
-use Rattle.rules.proofs.Truth.{both, to≡, no≤, of>, of≤, cases, all-getD}
+use Rattle.rules.proofs.Truth.{both, to≤, to≡, no≤, of>, of≤, cases, all-getD}
 use Rattle.rules.proofs.FieldLaws.{⨾-assoc}
+use Rattle.rules.proofs.Chapter4Laws.{layout-covers}
 use Rattle.columns.specs.Types.{heightValue, mediaValue, fourOf}
 use Rattle.kinds.specs.declared.Record.the-variants as R
 use Rattle.kinds.specs.Values.{twoText, threeText, kindNumber, codeOf, valuesOf, meaningOf, sequenceValue, writtenOf}
@@ -195,6 +196,55 @@ stops xs (f ∷ fs) ws p ts (suc i) l r h =
     stops-later anything xs (given f (takenAs (f .item) ws p ts)) _ _ _
     (stops xs fs ws (p + wordCount (f .item)) (textsAfter (f .item) ts) i (omega (arith, l)) (both r .1) h)
 
+-- ---- and at no later column
+unfoldable under : ℕ → Verdict → Bool
+under b ok = true
+under b (fault n c) = c ≤? b
+
+under-then : (b : ℕ) (u v : Verdict) → under b u ≡ true → under b v ≡ true → under b (u ⨾ v) ≡ true
+unfolding under _⨾_
+under-then b ok v h k = k
+under-then b (fault n c) v h k = h
+
+under-check : (b : ℕ) (t : Bool) (n c : ℕ) → c ≤ b → under b (check t n c) ≡ true
+unfolding under check
+under-check b true n c h = refl
+under-check b false n c h = of≤ h
+
+ok-under : (b : ℕ) → under b ok ≡ true
+unfolding under
+ok-under b = refl
+
+fault-under : (b n c : ℕ) → c ≤ b → under b (fault n c) ≡ true
+unfolding under
+fault-under b n c h = of≤ h
+
+none-under : (xs : List Entry) (b : ℕ) → under b (judgeEach anything xs []) ≡ true
+unfolding judgeEach
+none-under xs b = ok-under b
+
+one-under : (xs : List Entry) (f : Field) (v : Value) (ys : List Entry) (b : ℕ) → f .from ≤ b → under b (judgeEach anything xs ys) ≡ true → under b (judgeEach anything xs (given f v ∷ ys)) ≡ true
+unfolding judgeEach given
+one-under xs f v ys b h k =
+    let far : f .from + 0 ≤ b = omega (arith, h) in
+    under-then b (check (fits (f .item) v) 9 (f .from + 0)) _ (under-check b (fits (f .item) v) 9 (f .from + 0) far)
+    (under-then b (check (agrees anything xs (given f v)) 10 (f .from)) _ (under-check b (agrees anything xs (given f v)) 10 (f .from) h) k)
+
+left-under : (xs : List Entry) (fs : List Field) (vs : List Value) (i c : ℕ) → covers c fs ≡ true → i < length fs
+    → (c ≤ getD fs i noField .from) × (under (getD fs i noField .from) (judgeEach anything xs (take i (entriesOf fs vs))) ≡ true)
+unfolding covers entriesOf
+left-under xs [] vs i c h l = absurd (omega (arith, l))
+left-under xs (f ∷ fs) vs zero c h l = (omega (arith, to≡ (both (both h .0) .0)), none-under xs (f .from))
+left-under xs (f ∷ fs) [] (suc i) c h l =
+    let rest = left-under xs fs [] i (c + width (f .item)) (both h .1) (omega (arith, l)) in (omega (arith, rest .0), none-under xs (getD fs i noField .from))
+left-under xs (f ∷ fs) (v ∷ vs) (suc i) c h l =
+    let rest = left-under xs fs vs i (c + width (f .item)) (both h .1) (omega (arith, l)) in
+    (omega (arith, rest .0), one-under xs f v _ _ (omega (arith, rest .0, to≡ (both (both h .0) .0))) (rest .1))
+
+under-fault : (b : ℕ) (v : Verdict) (n c : ℕ) → under b v ≡ true → v ≡ fault n c → c ≤ b
+unfolding under
+under-fault b v n c h e = to≤ (rw e at h)
+
 -- ---- the whole verdict
 module _ (room : ℕ) (ws : List ℤ) (x y z : List ℕ) where
   abbrev whole : Meaning
@@ -240,6 +290,10 @@ module _ (room : ℕ) (ws : List ℤ) (x y z : List ℕ) where
     own-kind : kindOf (codeOf (recordGiven k ws)) ≡ k
     own-kind = code-kind (recordGiven k ws) (λ e. absurd (omega (arith, e, kind-taken ws k high, low))) ∙ kind-taken ws k high
 
+    layout-covered : covers 11 (getD layouts k kept) ≡ true
+    unfolding layout
+    layout-covered = let h : covers 11 (getD layouts (kindOf (codeOf (recordGiven k ws))) kept) ≡ true = layout-covers (codeOf (recordGiven k ws)) in rw own-kind at h
+
     told-is : told chapter4 whole ≡ entriesOf (getD layouts k kept) (allTaken (getD layouts k kept) ws 2 (x ∷ y ∷ z ∷ []))
     unfolding told meaningOf layout
     told-is = rw (kind, own-kind, values-taken ws x y z k high)
@@ -255,6 +309,25 @@ module _ (room : ℕ) (ws : List ℤ) (x y z : List ℕ) where
     field-refused =
         parted ∙ rw stopped
         (sym (⨾-assoc (leftOfCode room ws) _ _ ∙ ap (λ v. leftOfCode room ws ⨾ v) (⨾-assoc (check (ofKind chapter4 (kindNumber (words.given ws)) whole) 9 7) _ _)))
+
+    low-column : 11 ≤ getD (getD layouts k kept) i noField .from
+    low-column = left-under [] (getD layouts k kept) [] i 11 layout-covered there .0
+
+    -- the fault is named there or before
+    pub no-later : (n c : ℕ) → wordsVerdict room ws x y z ≡ fault n c → c ≤ getD (getD layouts k kept) i noField .from
+    unfolding leftOfField leftOfCode
+    no-later n c e =
+        let zero-under : 0 ≤ getD (getD layouts k kept) i noField .from = omega (arith, low-column) in
+        let one-under : 1 ≤ getD (getD layouts k kept) i noField .from = omega (arith, low-column) in
+        let seven-under : 7 ≤ getD (getD layouts k kept) i noField .from = omega (arith, low-column) in
+        let same : getD (getD layouts k kept) i noField .from ≤ getD (getD layouts k kept) i noField .from = omega arith in
+        under-fault _ _ n c
+        (under-then _ _ (fault 9 (getD (getD layouts k kept) i noField .from))
+        (under-then _ _ _
+        (under-then _ (check (81 ≤? room) 1 0) _ (under-check _ (81 ≤? room) 1 0 zero-under) (under-check _ _ 9 1 one-under))
+        (under-then _ _ _ (under-check _ _ 9 7 seven-under) (rw told-is (left-under _ (getD layouts k kept) _ i 11 layout-covered there .1))))
+        (fault-under _ 9 _ same))
+        (sym field-refused ∙ e)
 
 -- ---- the answer of the call
 refused-stays : (o : List ℕ) (ws : List ℤ) (x y z : List ℕ) (n c : ℕ) → wordsVerdict (length o) ws x y z ≡ fault n c → wordsOutput ws x y z o ≡ o
