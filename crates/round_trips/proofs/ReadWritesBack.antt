@@ -27,6 +27,7 @@ use Rattle.kinds.specs.declared.Reading.{Reading}
 use Rattle.kinds.specs.declared.Written.{Written}
 use Rattle.kinds.specs.Values.{sequenceOf, sequenceValue, kindNumber, recordFrom, recordOf, meaningOf, readingOf, writtenOf}
 use Rattle.kinds.proofs.TableLaws.{each-kind}
+use Rattle.reading.specs.Promise.{PromisedReading, PromisedPart}
 use Rattle.writing.specs.Promise.{Promised}
 use Rattle.round_trips.specs.Texts.{textColumns, textAt}
 use Rattle.round_trips.proofs.MeaningBack.{textsOf, meaning-back}
@@ -70,9 +71,12 @@ module _ (s : Sequence) (w : Record) where
   unfolding readOf
   taken file n e = taken-as n (lineAt file (n - 1)) (readLine chapter4 (lineAt file (n - 1))) (e ∙ rw (begun-there file n e) refl)
 
-module _ (file : List ℕ) (n : ℕ) (s : Sequence) (w : Record) (promised : Reading.Values s w ≡ readingOf (readOf file n)) where
+module _ (file : List ℕ) (n : ℕ) (s : Sequence) (w : Record) (was-read : PromisedReading file n (Reading.Values s w)) where
   abbrev line : List ℕ
   line = lineAt file (n - 1)
+
+  promised : Reading.Values s w ≡ readingOf (readOf file n)
+  promised = was-read .answered
 
   reads : isOk (readLine chapter4 line) ≡ true
   reads = taken s w file n promised .reads
@@ -115,9 +119,18 @@ module _ (file : List ℕ) (n : ℕ) (s : Sequence) (w : Record) (promised : Rea
     is-done ok h = refl
     is-done (fault a b) h = cc
 
-    -- every answer that write's promise allows for what read and field gave is Done, with the record in house style under the sequence number that it had
-    pub read-writes-back : (out : List ℕ) → 81 ≤ length out → (r : Written) (left : List ℕ) → Promised s w x y z out r left
+    is-written : (out : List ℕ) → 81 ≤ length out → (r : Written) (left : List ℕ) → Promised s w x y z out r left
         → (r ≡ Written.Done) × (left ≡ lineOf chapter4 (valueOf sequence (take 6 line)) (meaning chapter4 line) ++ drop 81 out)
     unfolding writeOutput
-    read-writes-back out room r left p =
+    is-written out room r left p =
         (p .answer ∙ is-done _ (is-taken out room), p .output ∙ rw (is-taken out room) (rw (same-number, same-meaning) refl))
+
+  -- every answer that write's promise allows for what read and field gave is Done, with the record in house style under the sequence number that it had
+  pub read-writes-back : {B : Type 0} (block : B) (start : ℕ) (x y z : List ℕ) (b c d : B) (i j k : ℕ)
+      → PromisedPart file n (getD (textColumns w) 0 0) block start x b i
+      → PromisedPart file n (getD (textColumns w) 1 0) block start y c j
+      → PromisedPart file n (getD (textColumns w) 2 0) block start z d k
+      → (out : List ℕ) → 81 ≤ length out → (r : Written) (left : List ℕ) → Promised s w x y z out r left
+      → (r ≡ Written.Done) × (left ≡ lineOf chapter4 (valueOf sequence (take 6 line)) (meaning chapter4 line) ++ drop 81 out)
+  unfolding textAt
+  read-writes-back block start x y z b c d i j k first second third = is-written x y z (first .contents) (second .contents) (third .contents)

@@ -21,6 +21,7 @@ use Rattle.kinds.specs.declared.Record.the-variants as R
 use Rattle.kinds.specs.declared.Reading.{Reading}
 use Rattle.kinds.specs.declared.Written.{Written}
 use Rattle.kinds.specs.Values.{textOf, sequenceOf, kindNumber, valuesOf, meaningOf, recordOf, readingOf}
+use Rattle.reading.specs.Promise.{PromisedReading, PromisedPart}
 use Rattle.writing.specs.Promise.{Promised}
 use Rattle.writing.proofs.WriteLaws.{done-reads-back, done-number, done-record}
 use Rattle.round_trips.specs.Texts.{isLong, longColumns, textColumns, textAt}
@@ -56,10 +57,10 @@ module _ (s : Sequence) (w : Record) (a b c out : List ℕ) {left : List ℕ} (p
   -- wherever the 81 bytes that write left stand as record n of a file
   module _ (file : List ℕ) (n : ℕ) (there : within 1 99_999 n & n ≤? begun file ≡ true) (e : lineAt file (n - 1) ≡ take 81 left) where
     -- every answer that read's promise allows has the values that were written
-    pub written-reads-back : (r : Reading) → r ≡ readingOf (readOf file n) → r ≡ Reading.Values s w
+    pub written-reads-back : (r : Reading) → PromisedReading file n r → r ≡ Reading.Values s w
     unfolding readOf
     written-reads-back r promised =
-        promised ∙ rw (there, e) (read-ok n (take 81 left) (readLine chapter4 (take 81 left)) (done-reads-back s w a b c out p .reads)
+        promised .answered ∙ rw (there, e) (read-ok n (take 81 left) (readLine chapter4 (take 81 left)) (done-reads-back s w a b c out p .reads)
         ∙ rw (done-number s w a b c out p, done-record s w a b c out p) refl)
 
     same-kind : kindOf (codeAt (lineAt file (n - 1))) ≡ kindNumber w
@@ -86,10 +87,12 @@ module _ (s : Sequence) (w : Record) (a b c out : List ℕ) {left : List ℕ} (p
         ap (λ cs. fieldOf file n (getD cs i 0)) (sym same-columns)
         ∙ sym (text-in-line file n there (rw e (done-reads-back s w a b c out p .reads)) i)
 
-    -- and every answer that field's promise allows at the column of text i is that text
-    pub written-texts-back : (i : ℕ) → i < length (textColumns w) → (x : List ℕ) → x ≡ textAt file n w i → x ≡ getD (a ∷ b ∷ c ∷ []) i []
-    written-texts-back i h x promised =
-        promised ∙ same-text i ∙ ap (λ ts. getD ts i []) same-texts ∙ getD-take (length (textColumns w)) (a ∷ b ∷ c ∷ []) i [] h
+    -- and every part that field's promise allows at the column of text i is that text
+    pub written-texts-back : (i : ℕ) → i < length (textColumns w) → {B : Type 0} (block : B) (start : ℕ) (x : List ℕ) (d : B) (at : ℕ)
+        → PromisedPart file n (getD (textColumns w) i 0) block start x d at → x ≡ getD (a ∷ b ∷ c ∷ []) i []
+    unfolding textAt
+    written-texts-back i h block start x d at promised =
+        promised .contents ∙ same-text i ∙ ap (λ ts. getD ts i []) same-texts ∙ getD-take (length (textColumns w)) (a ∷ b ∷ c ∷ []) i [] h
 
   -- as the one record of a file
   is-there : within 1 99_999 1 & 1 ≤? begun (take 81 left) ≡ true
@@ -100,8 +103,9 @@ module _ (s : Sequence) (w : Record) (a b c out : List ℕ) {left : List ℕ} (p
   unfolding lineAt
   is-line = let e : length (take 81 left) ≡ 81 = done-reads-back s w a b c out p .eighty-one in take-all 81 (take 81 left) (omega (arith, e))
 
-  pub written-alone : (r : Reading) → r ≡ readingOf (readOf (take 81 left) 1) → r ≡ Reading.Values s w
+  pub written-alone : (r : Reading) → PromisedReading (take 81 left) 1 r → r ≡ Reading.Values s w
   written-alone = written-reads-back (take 81 left) 1 is-there is-line
 
-  pub texts-alone : (i : ℕ) → i < length (textColumns w) → (x : List ℕ) → x ≡ textAt (take 81 left) 1 w i → x ≡ getD (a ∷ b ∷ c ∷ []) i []
+  pub texts-alone : (i : ℕ) → i < length (textColumns w) → {B : Type 0} (block : B) (start : ℕ) (x : List ℕ) (d : B) (at : ℕ)
+      → PromisedPart (take 81 left) 1 (getD (textColumns w) i 0) block start x d at → x ≡ getD (a ∷ b ∷ c ∷ []) i []
   texts-alone = written-texts-back (take 81 left) 1 is-there is-line
