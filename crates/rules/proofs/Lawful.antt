@@ -362,9 +362,9 @@ month-lawful (label m d y s t) h = absurd (false≢true h)
 
 -- ---- media identifier
 module _ (m d y s : ℕ) (t : List ℕ) (h : isMedia m d y s t ≡ true) where
-  parted : (isLetter m ≡ true) × (within 1 366 d ≡ true) × (y ≤? 9 ≡ true) × (member (letter or digit) s ≡ true) × (length t =? 4 & all isPrintable t ≡ true)
+  parted : (isLetter m ≡ true) × (d < 1_000) × (y ≤? 9 ≡ true) × (member (letter or digit) s ≡ true) × (length t =? 4 & all isPrintable t ≡ true)
   unfolding isMedia
-  parted = (both (both (both (both h .0) .0) .0) .0, both (both (both (both h .0) .0) .0) .1, both (both (both h .0) .0) .1, both (both h .0) .1, both h .1)
+  parted = (both (both (both (both h .0) .0) .0) .0, omega (arith, to-within (both (both (both (both h .0) .0) .0) .1) .1), both (both (both h .0) .0) .1, both (both h .0) .1, both h .1)
 
   days : take 3 (put 3 d ++ (48 + y) ∷ s ∷ t) ≡ put 3 d
   days = take-at (put 3 d) ((48 + y) ∷ s ∷ t) 3 (length-put 3 d)
@@ -380,7 +380,7 @@ media-value : (m d y s : ℕ) (t : List ℕ) → isMedia m d y s t ≡ true → 
 unfolding valueOf
 media-value m d y s t h =
     let x = put 3 d ++ (48 + y) ∷ s ∷ t in
-    let day : val 0 (take 3 x) ≡ d = ap (val 0) (days m d y s t h) ∙ val-put 3 d (omega (arith, to-within (parted m d y s t h .1) .1)) in
+    let day : val 0 (take 3 x) ≡ d = ap (val 0) (days m d y s t h) ∙ val-put 3 d (omega (arith, parted m d y s t h .1)) in
     let year : val 0 (take 1 (drop 3 x)) ≡ y = ap (λ z. val 0 (take 1 z)) (others m d y s t h) ∙ one y in
     let session : getD x 4 0 ≡ s = sym (getD-drop 3 x 1 0) ∙ ap (λ z. getD z 1 0) (others m d y s t h) in
     let mark : drop 5 x ≡ t = sym (drop-drop 2 3 x) ∙ ap (drop 2) (others m d y s t h) in
