@@ -14,7 +14,7 @@ use Rattle.rules.proofs.Truth.{of≤, of>, to≡, no≡, above-0, cases}
 use Rattle.reading.proofs.CallLaws.{inside, room, empty-offset, some-offset}
 use Rattle.kinds.specs.declared.Fault.{Fault}
 use Rattle.kinds.specs.declared.Checked.{Checked}
-use Rattle.export.specs.Answers.{answered, touched, faultWords, checkWords, fieldWords}
+use Rattle.answers.specs.Answers.{answered, touched, faultWords, checkWords, fieldWords}
 
 -- ---- too short an answer, and one that is long enough
 module _ {A : Type 0} (n : ℕ) (old : List A) where

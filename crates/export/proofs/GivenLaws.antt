@@ -42,8 +42,8 @@ use Rattle.kinds.specs.declared.Record.{Record}
 use Rattle.kinds.specs.declared.Record.the-variants as R
 use Rattle.kinds.specs.declared.Written.{Written}
 use Rattle.kinds.specs.Values.{kindNumber, sequenceValue, meaningOf, writtenOf}
-use Rattle.export.specs.Answers.{Small, faultWords, answered, touched}
-use Rattle.export.specs.Given.{wordAt, heldOr, numberOf, characterOf, digitOf, millimetresOf, isLeast, heightOf, sequenceOf, characterAt, numberAt, twoAt, threeAt, fourAt, mediaAt, projectGiven, occupationGiven, measurementGiven, pointGiven, heightsGiven, recordsGiven, recordGiven, given, sequenceGiven, writtenWords, Noted}
+use Rattle.answers.specs.Answers.{Small, faultWords, answered, touched}
+use Rattle.answers.specs.Given.{wordAt, heldOr, numberOf, characterOf, digitOf, millimetresOf, isLeast, heightOf, sequenceOf, characterAt, numberAt, twoAt, threeAt, fourAt, mediaAt, projectGiven, occupationGiven, measurementGiven, pointGiven, heightsGiven, recordsGiven, recordGiven, given, sequenceGiven, writtenWords, Noted}
 use Rattle.export.proofs.AnswerLaws.{long-answer, long-touched}
 use Rattle.export.proofs.Places.{written-near}
 

@@ -6,4 +6,3 @@ pub mod GivenLaws  -- words taken for values
 pub mod PromiseLaws  -- each call's promise, for each way through it
 pub mod Unheld  -- what a bad word is taken for is refused
 pub mod Refused  -- and so the call answers 9 at that word's field
-pub mod Determined  -- two results that one promise allows are equal

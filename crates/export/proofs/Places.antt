@@ -23,8 +23,8 @@ use Rattle.kinds.specs.declared.Checked.{Checked}
 use Rattle.kinds.specs.declared.Fault.{Fault}
 use Rattle.kinds.specs.declared.Reading as kinds
 use Rattle.kinds.specs.Values.{checkedOf, readingOf}
-use Rattle.export.specs.Answers.{Small, Counted}
-use Rattle.export.specs.Words.{Told}
+use Rattle.answers.specs.Answers.{Small, Counted}
+use Rattle.answers.specs.Words.{Told}
 
 -- ---- columns
 unfoldable near : Verdict → Bool

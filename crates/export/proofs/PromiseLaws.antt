@@ -11,10 +11,10 @@ use Rattle.kinds.specs.declared.Checked.{Checked}
 use Rattle.kinds.specs.declared.Reading.{Reading}
 use Rattle.kinds.specs.declared.Written.{Written}
 use Rattle.kinds.specs.Values.{kindNumber, sequenceValue, meaningOf, checkedOf, readingOf, writtenOf}
-use Rattle.export.specs.Answers.{touched, checkWords}
-use Rattle.export.specs.Words.{readWords}
-use Rattle.export.specs.Given.{given, sequenceGiven, writtenWords}
-use Rattle.export.specs.Promise.{Checks, Rewrites, Reads, Finds, wordsVerdict, wordsOutput, Writes}
+use Rattle.answers.specs.Answers.{touched, checkWords}
+use Rattle.answers.specs.Words.{readWords}
+use Rattle.answers.specs.Given.{given, sequenceGiven, writtenWords}
+use Rattle.answers.specs.Promise.{Checks, Rewrites, Reads, Finds, wordsVerdict, wordsOutput, Writes}
 use Rattle.export.proofs.AnswerLaws.{short-answer, untouched, long-touched, check-answer, field-none, field-some}
 use Rattle.export.proofs.WordLaws.{read-answer}
 use Rattle.export.proofs.GivenLaws.{write-answer, write-left}

@@ -23,11 +23,11 @@ use Rattle.kinds.specs.declared.Record.the-variants as R
 use Rattle.kinds.specs.Values.{twoText, threeText, kindNumber, codeOf, valuesOf, meaningOf, sequenceValue, writtenOf}
 use Rattle.kinds.proofs.ValueLaws.{code-kind}
 use Rattle.kinds.proofs.TableLaws.{each-kind}
-use Rattle.export.specs.Answers.{answered, touched, faultWords}
-use Rattle.export.specs.Given.{wordAt, heldOr, millimetresOf, isLeast, heightOf, sequenceOf, characterAt, numberAt, twoAt, threeAt, fourAt, mediaAt, projectGiven, occupationGiven, measurementGiven, pointGiven, heightsGiven, recordsGiven, recordGiven, writtenWords}
-use Rattle.export.specs.Given as words
-use Rattle.export.specs.Held.{wordCount, noField, wordFrom, isHeld, holdsNumber, holdsSequence, holdsMillimetres, holdsCharacters, holds, leftOfCode, leftOfField}
-use Rattle.export.specs.Promise.{wordsVerdict, wordsOutput, Writes}
+use Rattle.answers.specs.Answers.{answered, touched, faultWords}
+use Rattle.answers.specs.Given.{wordAt, heldOr, millimetresOf, isLeast, heightOf, sequenceOf, characterAt, numberAt, twoAt, threeAt, fourAt, mediaAt, projectGiven, occupationGiven, measurementGiven, pointGiven, heightsGiven, recordsGiven, recordGiven, writtenWords}
+use Rattle.answers.specs.Given as words
+use Rattle.answers.specs.Held.{wordCount, noField, wordFrom, isHeld, holdsNumber, holdsSequence, holdsMillimetres, holdsCharacters, holds, leftOfCode, leftOfField}
+use Rattle.answers.specs.Promise.{wordsVerdict, wordsOutput, Writes}
 use Rattle.export.proofs.GivenLaws.{word-lacking, given-none}
 use Rattle.export.proofs.Unheld.{refuses, layouts-refuse, kept-refuses, sequence-refuses, no-and, media-maker, media-day, media-year, media-session, first-unknown, second-unknown}
 

@@ -36,8 +36,8 @@ use Rattle.kinds.specs.declared.Record.{Record}
 use Rattle.kinds.specs.declared.Record.the-variants as R
 use Rattle.kinds.specs.declared.Reading.{Reading}
 use Rattle.kinds.specs.Values.{kindNumber}
-use Rattle.export.specs.Words.{heightWord, sequenceWord, twoWords, threeWords, fourWords, mediaWords, projectWords, occupationWords, measurementWords, pointWords, heightsFirst, heightsWords, valueWords, padded, readWords, Told, laid}
-use Rattle.export.specs.Answers.{Small, answered}
+use Rattle.answers.specs.Words.{heightWord, sequenceWord, twoWords, threeWords, fourWords, mediaWords, projectWords, occupationWords, measurementWords, pointWords, heightsFirst, heightsWords, valueWords, padded, readWords, Told, laid}
+use Rattle.answers.specs.Answers.{Small, answered}
 use Rattle.export.proofs.AnswerLaws.{long-answer}
 
 -- ---- one word

@@ -4,8 +4,8 @@ use kinds::Fault;
 use kinds::Written;
 ghost use mathlib.Core.Path.{_≡_};
 ghost use lib.ListN.{length};
-ghost use Rattle.export.specs.Answers.{Small, Counted, faultWords, checkWords};
-ghost use Rattle.export.specs.Given.{writtenWords, Noted};
+ghost use Rattle.answers.specs.Answers.{Small, Counted, faultWords, checkWords};
+ghost use Rattle.answers.specs.Given.{writtenWords, Noted};
 
 // number, record, column.
 pub(crate) fn put_fault(out: &mut [u32], f: Fault)

@@ -27,7 +27,7 @@ ghost use mathlib.Core.Path.{_≡_};
 ghost use Prim.Native.Nat.{_<_, _^_, _+_};
 ghost use Rattle.rules.specs.Items.{signed};
 ghost use Rattle.columns.specs.Leaves.{splitLongOf};
-ghost use Rattle.export.specs.Given.{wordAt, digitOf, millimetresOf, isLeast, heightOf, characterAt, numberAt, twoAt, threeAt, fourAt, mediaAt, projectGiven, occupationGiven, measurementGiven, pointGiven, heightsGiven, recordGiven, given, sequenceGiven};
+ghost use Rattle.answers.specs.Given.{wordAt, digitOf, millimetresOf, isLeast, heightOf, characterAt, numberAt, twoAt, threeAt, fourAt, mediaAt, projectGiven, occupationGiven, measurementGiven, pointGiven, heightsGiven, recordGiven, given, sequenceGiven};
 
 // A word, and the largest one where it is lacking.
 fn word_at(values: &[i64], i: usize) -> i64

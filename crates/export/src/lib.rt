@@ -14,7 +14,7 @@ use reading::read;
 use rewriting::rewrite;
 use walk::check;
 use writing::write;
-ghost use Rattle.export.specs.Promise.{Checks, Rewrites, Reads, Finds, Writes};
+ghost use Rattle.answers.specs.Promise.{Checks, Rewrites, Reads, Finds, Writes};
 
 // number, record, column, and the fourteen counts.
 #[no_mangle]

@@ -10,7 +10,7 @@ ghost use mathlib.Core.List.{[], _∷_};
 ghost use Prim.Native.Nat.{_<_};
 ghost use lib.ListN.{length, set, replicate};
 ghost use lib.IntN.{pos};
-ghost use Rattle.export.specs.Words.{heightWord, sequenceWord, twoWords, threeWords, fourWords, mediaWords, laid};
+ghost use Rattle.answers.specs.Words.{heightWord, sequenceWord, twoWords, threeWords, fourWords, mediaWords, laid};
 
 pub(crate) fn clear(out: &mut [i64])
     requires { ⌜ length (now out) ≡ 32 ⌝ }

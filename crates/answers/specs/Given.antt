@@ -24,7 +24,7 @@ use Rattle.kinds.specs.declared.Record.{Record}
 use Rattle.kinds.specs.declared.Record.the-variants as R
 use Rattle.kinds.specs.declared.Written.{Written}
 use Rattle.kinds.specs.declared.Fault.{Fault}
-use Rattle.export.specs.Answers.{faultWords, Small}
+use Rattle.answers.specs.Answers.{faultWords, Small}
 
 -- ---- one word: what its field's type cannot hold is taken for a value that no field holds, so that it is refused at its own column
 -- a word that is lacking counts as the largest one, which no field holds

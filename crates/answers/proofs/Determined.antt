@@ -3,7 +3,7 @@ use mathlib.Core.Path.{_≡_}
 use mathlib.Core.List.{List}
 use Prim.Native.Nat.{ℕ}
 use lib.IntN.{ℤ}
-use Rattle.export.specs.Promise.{Checks, Rewrites, Reads, Finds, Writes}
+use Rattle.answers.specs.Promise.{Checks, Rewrites, Reads, Finds, Writes}
 
 pub one-check : (f t a u b v d : List ℕ) → Checks f t a u b → Checks f t a v d → (u ≡ v) × (b ≡ d)
 one-check f t a u b v d p q = (cc, cc)

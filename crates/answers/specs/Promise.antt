@@ -7,9 +7,9 @@ use lib.IntN.{ℤ}
 use Rattle.rules.specs.Fields.{Verdict}
 use Rattle.rules.specs.Calls.{checkAnswer, checkTable, rewriteAnswer, rewriteTable, rewriteOutput, readOf, writeVerdict, writeOutput}
 use Rattle.kinds.specs.Values.{kindNumber, sequenceValue, meaningOf, checkedOf, readingOf, writtenOf}
-use Rattle.export.specs.Answers.{answered, touched, checkWords, fieldWords}
-use Rattle.export.specs.Words.{readWords}
-use Rattle.export.specs.Given.{given, sequenceGiven, writtenWords}
+use Rattle.answers.specs.Answers.{answered, touched, checkWords, fieldWords}
+use Rattle.answers.specs.Words.{readWords}
+use Rattle.answers.specs.Given.{given, sequenceGiven, writtenWords}
 
 -- of a file f, a table t and an answer a: the table u and the answer b
 pub record Checks (f t a u b : List ℕ) : Type 0 where

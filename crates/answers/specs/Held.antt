@@ -11,7 +11,7 @@ use Rattle.rules.specs.Records.{sequence, told, ofKind}
 use Rattle.rules.specs.Layouts.{at}
 use Rattle.rules.specs.Chapter4.{chapter4}
 use Rattle.kinds.specs.Values.{kindNumber, sequenceValue, meaningOf}
-use Rattle.export.specs.Given.{wordAt, isLeast, given, sequenceGiven}
+use Rattle.answers.specs.Given.{wordAt, isLeast, given, sequenceGiven}
 
 -- ---- a field's words
 -- how many it has: the texts of more than four columns have none

@@ -20,7 +20,7 @@ use Rattle.kinds.specs.declared.Record.{Record}
 use Rattle.kinds.specs.declared.Record.the-variants as R
 use Rattle.kinds.specs.declared.Reading.{Reading}
 use Rattle.kinds.specs.Values.{kindNumber}
-use Rattle.export.specs.Answers.{Small}
+use Rattle.answers.specs.Answers.{Small}
 
 -- ---- one value: a number one word, a short code one for each character
 -- missing is the least word, and not 0
