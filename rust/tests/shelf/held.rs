@@ -5,7 +5,7 @@ use crate::desk::{Desk, Ran};
 use std::env;
 use std::ffi::CStr;
 use std::fs::{self, File};
-use std::os::fd::FromRawFd;
+use std::os::fd::{AsRawFd, FromRawFd};
 use std::os::unix::fs::OpenOptionsExt;
 use std::path::PathBuf;
 use std::process::{self, Child, Command, Stdio};
@@ -25,9 +25,19 @@ const ALSO_HELD: i32 = 2;
 extern "C" {
     fn kill(process: i32, signal: i32) -> i32;
     fn waitpid(process: i32, status: *mut i32, options: i32) -> i32;
+    fn ioctl(file: i32, request: u64, ...) -> i32;
     fn posix_openpt(flags: i32) -> i32;
     fn unlockpt(file: i32) -> i32;
     fn ptsname_r(file: i32, name: *mut u8, room: usize) -> i32;
+}
+
+/// Asks how many bytes of a pipe nobody has read yet.
+const WAITING: u64 = 0x541b;
+
+pub fn waiting_bytes(pipe: &File) -> i32 {
+    let mut bytes = 0i32;
+    assert_eq!(unsafe { ioctl(pipe.as_raw_fd(), WAITING, &mut bytes) }, 0);
+    bytes
 }
 
 /// Reads, writes, and is nobody's own terminal.

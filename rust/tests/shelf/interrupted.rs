@@ -1,10 +1,14 @@
 //! A move that is asked to stop.
 
-use crate::desk::{house, Desk};
-use crate::held::{send, Held, HANG_UP, INTERRUPT, TERMINATE};
+use crate::desk::{house, Desk, Ran};
+use crate::held::{send, waiting_bytes, Held, HANG_UP, INTERRUPT, TERMINATE};
 use shelf::{generate, sample};
+use std::fs::File;
+use std::io::Write;
+use std::os::fd::OwnedFd;
 use std::os::unix::process::CommandExt;
 use std::process::{Command, Stdio};
+use std::thread::yield_now;
 
 const FILES: usize = 12;
 
@@ -113,37 +117,49 @@ fn a_signal_that_was_ignored_stays_so() {
 }
 
 /// Nothing has been begun while a pipe or a terminal is read, so the system's
-/// own way to end a command is good enough.
+/// own way to end a command is good enough. The signal comes when the command
+/// has taken a byte and waits for more; one that only marks it would then find
+/// the end of its input, and end in another way.
 #[test]
 fn waiting_for_input_it_ends_on_the_first_signal() {
     let desk = Desk::new("stop-input");
     desk.put("good.b", &sample::file());
     let made = Command::new("mkfifo").arg(desk.path("pipe")).status();
     assert!(made.unwrap().success());
-    // Held open for writing too, so that whoever opens it waits for bytes.
-    let _writer = std::fs::File::options()
-        .read(true)
-        .write(true)
-        .open(desk.path("pipe"))
-        .unwrap();
     for words in [
-        &["check", "-"][..],
+        &["rewrite", "pipe", "out.b"][..],
+        &["rewrite", "-", "out.b"],
+        &["check", "-"],
         &["check", "good.b", "pipe"],
         &["check", "--files-from", "-"],
         &["sheet", "-"],
         &["show", "pipe", "1"],
-        &["rewrite", "-", "out.b"],
-        &["rewrite", "pipe", "out.b"],
     ] {
         for number in [INTERRUPT, TERMINATE, HANG_UP] {
+            // Open for reading too, so that there is always somebody to write
+            // to.
+            let pipe = File::options()
+                .read(true)
+                .write(true)
+                .open(desk.path("pipe"))
+                .unwrap();
             let mut command = desk.command(words);
             command.stdin(Stdio::piped()).stdout(Stdio::null());
             let mut child = command.spawn().unwrap();
-            let input = child.stdin.take();
+            let input = File::from(OwnedFd::from(child.stdin.take().unwrap()));
+            let (read, _other) = match words.contains(&"pipe") {
+                true => (pipe, input),
+                false => (input, pipe),
+            };
+            (&read).write_all(b"x").unwrap();
+            while waiting_bytes(&read) > 0 {
+                assert!(child.try_wait().unwrap().is_none(), "{words:?}");
+                yield_now();
+            }
             send(&child, number);
+            drop((read, _other));
             let ended = child.wait_with_output().unwrap();
-            drop(input);
-            assert_eq!(crate::desk::Ran::of(ended).status, -number, "{words:?}");
+            assert_eq!(Ran::of(ended).status, -number, "{words:?}");
         }
     }
     assert!(!desk.has("out.b"));

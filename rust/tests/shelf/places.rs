@@ -116,6 +116,34 @@ fn the_ledger_takes_no_files_place() {
     assert_eq!(desk.files("new"), ["a/f.b", "b/f.b", "b/kept", "good.b"]);
 }
 
+/// What stands under the ledger's passing name and is no ledger, as a deposit
+/// that was moved there, keeps its name.
+#[test]
+fn only_a_ledger_is_kept_aside() {
+    let desk = Desk::new("place-aside");
+    let file = sample::file();
+    desk.put("old/l.unfinished", &file);
+    desk.put("other/good.b", &file);
+    desk.run(&MOVE).ended(0);
+    for old in ["old", "other"] {
+        for replace in [&[][..], &["--replace"]] {
+            let words = ["move", old, "new", "--ledger", "new/l"];
+            let ran = desk.run(&[&words[..], replace].concat()).ended(2);
+            assert_eq!(
+                ran.err,
+                "shelf: new/l.unfinished: there is one already, and it is no ledger\n"
+            );
+        }
+    }
+    assert_eq!(desk.files("new"), ["l.unfinished"]);
+    assert_eq!(desk.get("new/l.unfinished"), house(&file));
+    // One of which not even the titles were written is kept aside too.
+    desk.put("empty.tsv.unfinished", b"");
+    let words = ["move", "other", "new", "--ledger", "empty.tsv"];
+    desk.run(&words).ended(0);
+    assert!(desk.has("empty.tsv") && desk.has("empty.tsv.unfinished.1"));
+}
+
 /// Through a link in the new folder the ledger stood in a moved file's place.
 #[test]
 fn the_ledger_stands_where_it_was_put() {

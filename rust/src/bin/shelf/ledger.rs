@@ -202,12 +202,7 @@ impl<'a> Ledger<'a> {
     }
 
     pub fn titles(&mut self) -> Result<(), Trouble> {
-        let head = ["file", "records in", "records out"];
-        let tail = ["fault", "record", "column", "outcome"];
-        let digests = ["sha-256 in", "sha-256 out"];
-        let titles = head.into_iter().chain(KINDS).chain(tail).chain(digests);
-        let titles: Vec<String> = titles.map(str::to_string).collect();
-        self.line(&titles)?;
+        self.write(&titles())?;
         // From now on the file has something to say, whatever comes.
         if let To::File(unfinished) = &mut self.to {
             unfinished.stays = true;
@@ -216,7 +211,7 @@ impl<'a> Ledger<'a> {
     }
 
     pub fn add(&mut self, row: &Row) -> Result<(), Trouble> {
-        self.line(&row.columns())
+        self.write(&line_of(&row.columns()))
     }
 
     /// Writes the totals and gives the ledger its name. The totals are the
@@ -232,7 +227,7 @@ impl<'a> Ledger<'a> {
                 .chain([format!("{} files", total.files)])
                 .chain(["-"; 2].map(str::to_string))
                 .collect();
-            self.line(&columns)?;
+            self.write(&line_of(&columns))?;
         }
         match self.to {
             To::Output(out) => out.flush().map_err(Trouble::standard_output),
@@ -245,8 +240,7 @@ impl<'a> Ledger<'a> {
         }
     }
 
-    fn line(&mut self, columns: &[String]) -> Result<(), Trouble> {
-        let line = format!("{}\n", columns.join("\t"));
+    fn write(&mut self, line: &str) -> Result<(), Trouble> {
         match &mut self.to {
             To::Output(out) => out.write_all(line.as_bytes()),
             To::File(unfinished) => unfinished.add(line.as_bytes()),
@@ -375,31 +369,53 @@ fn busy(path: &Path) -> Trouble {
 }
 
 /// Gives the ledger of a run that was cut short another name, so that no row
-/// of it is lost. One that a run still holds is that run's.
+/// of it is lost. One that a run still holds is that run's, and what is no
+/// ledger is not touched.
 fn keep_aside(folder: &Folder, passing: &OsStr, path: &Path) -> Result<(), Trouble> {
     let shown = folder.named(passing);
     let on = || Trouble::on(&shown);
-    let left = match folder.file(passing).map_err(on())? {
-        Opened::File(left, _) => left,
+    let (mut left, known) = match folder.file(passing).map_err(on())? {
+        Opened::File(left, known) => (left, known),
         Opened::Other(what) => return Err(Trouble::about(&shown, what)),
     };
     if !is_held(folder, passing, &left).map_err(on())? {
         return Err(busy(path));
     }
+    let titles = titles();
+    let begins = disk::read_up_to(&mut left, &known, titles.len()).map_err(on())?;
+    // A run may have been cut short before it wrote the titles.
+    if !begins.is_empty() && begins != titles.as_bytes() {
+        let what = "there is one already, and it is no ledger";
+        return Err(Trouble::about(&shown, what));
+    }
     for number in 1.. {
         let mut aside = passing.to_os_string();
         aside.push(format!(".{number}"));
-        if folder.find(&aside).map_err(on())?.is_none() {
-            folder.rename(passing, &aside).map_err(on())?;
-            let what = format!(
-                "left by a run that was cut short, kept as {}",
-                names::shown(&folder.named(&aside))
-            );
-            Trouble::about(&shown, what).tell();
-            break;
+        match folder.give_name(passing, &aside, false) {
+            Err(error) if error.kind() == ErrorKind::AlreadyExists => continue,
+            given => given.map_err(on())?,
         }
+        let what = format!(
+            "left by a run that was cut short, kept as {}",
+            names::shown(&folder.named(&aside))
+        );
+        Trouble::about(&shown, what).tell();
+        break;
     }
     Ok(())
+}
+
+/// The first line of every ledger.
+fn titles() -> String {
+    let head = ["file", "records in", "records out"];
+    let tail = ["fault", "record", "column", "outcome"];
+    let digests = ["sha-256 in", "sha-256 out"];
+    let titles = head.into_iter().chain(KINDS).chain(tail).chain(digests);
+    line_of(&titles.map(str::to_string).collect::<Vec<_>>())
+}
+
+fn line_of(columns: &[String]) -> String {
+    format!("{}\n", columns.join("\t"))
 }
 
 /// Whether the words of the command name standard output.
