@@ -15,7 +15,7 @@ use Rattle.rules.specs.Records.{Meaning, Edition, codeAt, knownCode, mea
 use Rattle.rules.specs.Files.{lines, meanings}
 use Rattle.rules.specs.Kinds.{dataCodes, kindFrom, starred, kindBetween, kindOf}
 use Rattle.rules.specs.Layouts.{at, tied, station, instrument, antenna, initials, state, anyText, metres, letterOrBlank, kept, titled, project, occupation, comment, measurement, receiver, aerial, point, heights, layouts, layout}
-use Rattle.rules.specs.Order.{mayCome, placeAfter, ruled, order, goto}
+use Rattle.rules.specs.Order.{mayCome, placeNamed, placeAfter, ruled, order, goto}
 use Rattle.rules.specs.References.{refChecks}
 use Rattle.rules.specs.Faults.{stage, phase}
 use Rattle.rules.specs.Chapter4.{Past, chapter4}
@@ -89,7 +89,7 @@ below-holds zero p h i k = absurd (omega arith)
 below-holds (suc n) p h i k = either (λ l. below-holds n p (both h .1) i l) (λ e. rw e (both h .0)) (below-or-equal i n (omega arith))
 
 order-agrees : allBelow 17 (λ p. allBelow 14 (λ k. goto p k =? ruled p k)) ≡ true
-unfolding allBelow goto ruled order mayCome placeAfter anyOf _=?_ _&_
+unfolding allBelow goto ruled order mayCome placeAfter placeNamed anyOf _=?_ _&_
 order-agrees = refl
 
 pub order-is-the-table : (place kind : ℕ) → place < 17 → kind < 14 → goto place kind ≡ ruled place kind

@@ -66,7 +66,7 @@ module _ (l : List ℕ) where
   formed-told [] h = refl
   formed-told (f ∷ fs) h = and (good-fits (f .item) (columnsOf f l) (both h .0)) (formed-told fs (both h .1))
 
-  valueAt-told : (c : ℕ) (fs : List Field) → valueAt c (map (read l) fs) ≡ valueAt c (entriesOf fs (values fs l))
+  pub valueAt-told : (c : ℕ) (fs : List Field) → valueAt c (map (read l) fs) ≡ valueAt c (entriesOf fs (values fs l))
   unfolding valueAt read given entriesOf values
   valueAt-told c [] = refl
   valueAt-told c (f ∷ fs) = ap (cond (f .from =? c) (valueOf (f .item) (columnsOf f l))) (valueAt-told c fs)

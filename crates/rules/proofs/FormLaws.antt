@@ -14,11 +14,12 @@ use Rattle.rules.specs.Digits.{val}
 use Rattle.rules.specs.Items.{Value, missing, num, number, height, numForm, heightForm, minus, signed, valueOf, fits, onNumber, width, shape, good}
 use Rattle.rules.specs.Forms.{IsNumber, IsHeight, NumberField, HeightField}
 use Rattle.rules.proofs.Truth.{both, and, to≤, of≤, no≤, to≡, of≡, of-within, to-within, cases, all-weaken, all-append, not-both, is-no}
+use Rattle.rules.proofs.SetLaws.{digits-in, digits-of}
 use Rattle.rules.proofs.DigitLaws.{notAbove9, val-lt}
 use Rattle.rules.proofs.Lawful.{digit-not-blank, digit-not-minus, digits-not-blank, blanks, blanks-numForm, digits-numForm, blanks-heightForm, digits-heightForm, digits-no-minus}
 
 -- ---- blanks in front
-all-blank : (bs : List ℕ) → all isBlank bs ≡ true → bs ≡ replicate (length bs) 32
+pub all-blank : (bs : List ℕ) → all isBlank bs ≡ true → bs ≡ replicate (length bs) 32
 unfolding all isBlank
 all-blank [] h = refl
 all-blank (b ∷ bs) h = ap₂ _∷_ (to≡ (both h .0)) (all-blank bs (both h .1))
@@ -118,36 +119,34 @@ module _ (w lo hi : ℕ) (may : Bool) where
   unfolding fits onNumber
   fits-missing h = h
 
-  pub number-is : (bs : List ℕ) → (good (number w lo hi may) bs ≡ true) ↔ NumberField w lo hi may bs (valueOf (number w lo hi may) bs)
+  pub number-forth : (bs : List ℕ) → good (number w lo hi may) bs ≡ true → NumberField w lo hi may bs (valueOf (number w lo hi may) bs)
   unfolding good shape width NumberField
-  number-is bs = (forth, back)
-    where
-      forth : length bs =? w & numForm bs & fits (number w lo hi may) (valueOf (number w lo hi may) bs) ≡ true
-          → ((may ≡ true) × (bs ≡ replicate w 32) × (valueOf (number w lo hi may) bs ≡ missing))
-          ⊎ ((n : ℕ) × (length bs ≡ w) × IsNumber n bs × (lo ≤ n) × (n ≤ hi) × (valueOf (number w lo hi may) bs ≡ num (pos n)))
-      forth h =
-          let size : length bs ≡ w = to≡ (both (both h .0) .0) in
-          let s = split-number bs (both (both h .0) .1) in
-          cases (1 ≤? length (s .digits))
-          (λ some.
-          let v : valueOf (number w lo hi may) bs ≡ num (pos (val 0 (s .digits))) = ap (valueOf (number w lo hi may)) (s .spelled) ∙ value-digits (s .blank) (s .digits) (s .decimal) (to≤ some) in
-          let r = in-range (val 0 (s .digits)) (subst (λ x. fits (number w lo hi may) x ≡ true) v (both h .1)) in
-          inr (val 0 (s .digits), size, record { blanks = s .blank; digits = s .digits; spelled = s .spelled; decimal = s .decimal; some = to≤ some; value = refl }, r .0, r .1, v))
-          (λ none.
-          let blank : bs ≡ replicate w 32 = only-blanks bs s size none in
-          let v : valueOf (number w lo hi may) bs ≡ missing = value-blank bs (rw blank (blanks w)) in
-          inl (may-miss (subst (λ x. fits (number w lo hi may) x ≡ true) v (both h .1)), blank, v))
+  number-forth bs h =
+      let size : length bs ≡ w = to≡ (both (both h .0) .0) in
+      let s = split-number bs (both (both h .0) .1) in
+      cases (1 ≤? length (s .digits))
+      (λ some.
+      let v : valueOf (number w lo hi may) bs ≡ num (pos (val 0 (s .digits))) = ap (valueOf (number w lo hi may)) (s .spelled) ∙ value-digits (s .blank) (s .digits) (s .decimal) (to≤ some) in
+      let r = in-range (val 0 (s .digits)) (subst (λ x. fits (number w lo hi may) x ≡ true) v (both h .1)) in
+      inr (val 0 (s .digits), size, record { blanks = s .blank; digits = s .digits; spelled = s .spelled; decimal = digits-in (s .digits) (s .decimal); some = to≤ some; value = refl }, r .0, r .1, v))
+      (λ none.
+      let blank : bs ≡ replicate w 32 = only-blanks bs s size none in
+      let v : valueOf (number w lo hi may) bs ≡ missing = value-blank bs (rw blank (blanks w)) in
+      inl (may-miss (subst (λ x. fits (number w lo hi may) x ≡ true) v (both h .1)), blank, v))
 
-      back : ((may ≡ true) × (bs ≡ replicate w 32) × (valueOf (number w lo hi may) bs ≡ missing))
-          ⊎ ((n : ℕ) × (length bs ≡ w) × IsNumber n bs × (lo ≤ n) × (n ≤ hi) × (valueOf (number w lo hi may) bs ≡ num (pos n)))
-          → length bs =? w & numForm bs & fits (number w lo hi may) (valueOf (number w lo hi may) bs) ≡ true
-      back (inl x) =
-          and (and (of≡ (ap length (x .1) ∙ length-replicate {A = ℕ} w 32)) (rw (x .1) (blanks-numForm _ (blanks w)))) (rw (x .2) (fits-missing (x .0)))
-      back (inr (n, size, i, a, b, v)) =
-          let long : length (i .digits) ≤ w = behind-blanks w (i .blanks) (i .digits) (sym (ap length (i .spelled)) ∙ size) in
-          let small : n < 10 ^ w = rw (i .value) (digits-lt w (i .digits) (i .decimal) long) in
-          and (and (of≡ size) (rw (i .spelled) (numForm-blanks (i .blanks) (i .digits) ∙ digits-numForm (i .digits) (i .decimal))))
-          (rw v (fits-range n (omega (arith, i .some)) small a b))
+  pub number-back : (bs : List ℕ) (v : Value) → NumberField w lo hi may bs v → (good (number w lo hi may) bs ≡ true) × (valueOf (number w lo hi may) bs ≡ v)
+  unfolding good shape width NumberField
+  number-back bs v (inl x) =
+      let e : valueOf (number w lo hi may) bs ≡ missing = value-blank bs (rw (x .1) (blanks w)) in
+      (and (and (of≡ (ap length (x .1) ∙ length-replicate {A = ℕ} w 32)) (rw (x .1) (blanks-numForm _ (blanks w)))) (rw e (fits-missing (x .0))), e ∙ sym (x .2))
+  number-back bs v (inr (n, size, i, a, b, q)) =
+      let ds : all isDigit (i .digits) ≡ true = digits-of (i .digits) (i .decimal) in
+      let long : length (i .digits) ≤ w = behind-blanks w (i .blanks) (i .digits) (sym (ap length (i .spelled)) ∙ size) in
+      let small : n < 10 ^ w = rw (i .value) (digits-lt w (i .digits) ds long) in
+      let e : valueOf (number w lo hi may) bs ≡ num (pos n) = ap (valueOf (number w lo hi may)) (i .spelled) ∙ value-digits (i .blanks) (i .digits) ds (i .some) ∙ ap (λ k. num (pos k)) (sym (i .value)) in (
+        and (and (of≡ size) (rw (i .spelled) (numForm-blanks (i .blanks) (i .digits) ∙ digits-numForm (i .digits) ds))) (rw e (fits-range n (omega (arith, i .some)) small a b)),
+        e ∙ sym q,
+      )
 
 -- ---- signed heights
 pub record SplitHeight (bs : List ℕ) : Type 0 where
@@ -254,30 +253,31 @@ module _ (w : ℕ) (may : Bool) where
       unsigned : s .sign ≡ false
       unsigned = is-no (s .sign) (λ x. omega (arith, s .some x, no≤ h))
 
-  pub height-is : (bs : List ℕ) → (good (height w may) bs ≡ true) ↔ HeightField w may bs (valueOf (height w may) bs)
+  pub height-forth : (bs : List ℕ) → good (height w may) bs ≡ true → HeightField w may bs (valueOf (height w may) bs)
   unfolding good shape width HeightField
-  height-is bs = (forth, back)
-    where
-      forth : length bs =? w & heightForm bs & fits (height w may) (valueOf (height w may) bs) ≡ true
-          → ((may ≡ true) × (bs ≡ replicate w 32) × (valueOf (height w may) bs ≡ missing)) ⊎ ((z : ℤ) × (length bs ≡ w) × IsHeight z bs × (valueOf (height w may) bs ≡ num z))
-      forth h =
-          let size : length bs ≡ w = to≡ (both (both h .0) .0) in
-          let s = split-height bs (both (both h .0) .1) in
-          cases (1 ≤? length (s .digits))
-          (λ some.
-          let v : valueOf (height w may) bs ≡ num (signed (s .sign) (val 0 (s .digits))) = ap (valueOf (height w may)) (s .spelled) ∙ height-value (s .blank) (s .sign) (s .digits) (s .decimal) (to≤ some) in
-          inr (signed (s .sign) (val 0 (s .digits)), size, record { blanks = s .blank; minus = s .sign; digits = s .digits; spelled = s .spelled; decimal = s .decimal; some = to≤ some; value = refl }, v))
-          (λ none.
-          let blank : bs ≡ replicate w 32 = height-only-blanks bs s size none in
-          let v : valueOf (height w may) bs ≡ missing = height-blank bs (rw blank (blanks w)) in
-          inl (height-may-miss (subst (λ x. fits (height w may) x ≡ true) v (both h .1)), blank, v))
+  height-forth bs h =
+      let size : length bs ≡ w = to≡ (both (both h .0) .0) in
+      let s = split-height bs (both (both h .0) .1) in
+      cases (1 ≤? length (s .digits))
+      (λ some.
+      let v : valueOf (height w may) bs ≡ num (signed (s .sign) (val 0 (s .digits))) = ap (valueOf (height w may)) (s .spelled) ∙ height-value (s .blank) (s .sign) (s .digits) (s .decimal) (to≤ some) in
+      inr (signed (s .sign) (val 0 (s .digits)), size, record { blanks = s .blank; minus = s .sign; digits = s .digits; spelled = s .spelled; decimal = digits-in (s .digits) (s .decimal); some = to≤ some; value = refl }, v))
+      (λ none.
+      let blank : bs ≡ replicate w 32 = height-only-blanks bs s size none in
+      let v : valueOf (height w may) bs ≡ missing = height-blank bs (rw blank (blanks w)) in
+      inl (height-may-miss (subst (λ x. fits (height w may) x ≡ true) v (both h .1)), blank, v))
 
-      back : ((may ≡ true) × (bs ≡ replicate w 32) × (valueOf (height w may) bs ≡ missing)) ⊎ ((z : ℤ) × (length bs ≡ w) × IsHeight z bs × (valueOf (height w may) bs ≡ num z))
-          → length bs =? w & heightForm bs & fits (height w may) (valueOf (height w may) bs) ≡ true
-      back (inl x) =
-          and (and (of≡ (ap length (x .1) ∙ length-replicate {A = ℕ} w 32)) (rw (x .1) (blanks-heightForm _ (blanks w)))) (rw (x .2) (height-missing (x .0)))
-      back (inr (z, size, i, v)) =
-          let tail = cond (i .minus) (45 ∷ []) [] ++ i .digits in
-          let long : length tail ≤ w = behind-blanks w (i .blanks) tail (sym (ap length (i .spelled)) ∙ size) in
-          and (and (of≡ size) (rw (i .spelled) (heightForm-blanks (i .blanks) tail ∙ signed-form (i .minus) (i .digits) (i .decimal) (i .some))))
-          (rw v (subst (λ x. fits (height w may) (num x) ≡ true) (sym (i .value)) (height-fits (i .minus) (i .digits) (i .decimal) (i .some) long)))
+  pub height-back : (bs : List ℕ) (v : Value) → HeightField w may bs v → (good (height w may) bs ≡ true) × (valueOf (height w may) bs ≡ v)
+  unfolding good shape width HeightField
+  height-back bs v (inl x) =
+      let e : valueOf (height w may) bs ≡ missing = height-blank bs (rw (x .1) (blanks w)) in
+      (and (and (of≡ (ap length (x .1) ∙ length-replicate {A = ℕ} w 32)) (rw (x .1) (blanks-heightForm _ (blanks w)))) (rw e (height-missing (x .0))), e ∙ sym (x .2))
+  height-back bs v (inr (z, size, i, q)) =
+      let ds : all isDigit (i .digits) ≡ true = digits-of (i .digits) (i .decimal) in
+      let tail = cond (i .minus) (45 ∷ []) [] ++ i .digits in
+      let long : length tail ≤ w = behind-blanks w (i .blanks) tail (sym (ap length (i .spelled)) ∙ size) in
+      let e : valueOf (height w may) bs ≡ num z = ap (valueOf (height w may)) (i .spelled) ∙ height-value (i .blanks) (i .minus) (i .digits) ds (i .some) ∙ ap num (sym (i .value)) in (
+        and (and (of≡ size) (rw (i .spelled) (heightForm-blanks (i .blanks) tail ∙ signed-form (i .minus) (i .digits) ds (i .some))))
+            (rw e (subst (λ x. fits (height w may) (num x) ≡ true) (sym (i .value)) (height-fits (i .minus) (i .digits) ds (i .some) long))),
+        e ∙ sym q,
+      )

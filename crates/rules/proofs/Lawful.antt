@@ -65,7 +65,7 @@ unfolding isTitle
 title-printable b h =
     choice (isLetter b) _ h _ (letter-printable b) (λ e. choice (isDigit b) _ e _ (digit-printable b) (anyOf-printable titleMarks b marks-printable))
 
-member-printable : (s : Set) (b : ℕ) → member s b ≡ true → isPrintable b ≡ true
+pub member-printable : (s : Set) (b : ℕ) → member s b ≡ true → isPrintable b ≡ true
 unfolding member
 member-printable letter b h = letter-printable b h
 member-printable digit b h = digit-printable b h
@@ -226,13 +226,13 @@ unfolding dms
 dms-lt′ m h = omega arith
 
 -- degrees, minutes and seconds out of the one number
-degrees : (d q t : ℕ) → q < 100 → t < 10_000_000 → (d * 1_000_000_000 + q * 10_000_000 + t) / 1_000_000_000 ≡ d
+pub degrees : (d q t : ℕ) → q < 100 → t < 10_000_000 → (d * 1_000_000_000 + q * 10_000_000 + t) / 1_000_000_000 ≡ d
 degrees d q t h k = omega arith
 
-minutes : (d q t : ℕ) → q < 100 → t < 10_000_000 → (d * 1_000_000_000 + q * 10_000_000 + t) / 10_000_000 % 100 ≡ q
+pub minutes : (d q t : ℕ) → q < 100 → t < 10_000_000 → (d * 1_000_000_000 + q * 10_000_000 + t) / 10_000_000 % 100 ≡ q
 minutes d q t h k = let e : (d * 1_000_000_000 + q * 10_000_000 + t) / 10_000_000 ≡ d * 100 + q = omega arith in omega arith
 
-seconds : (d q t : ℕ) → t < 10_000_000 → (d * 1_000_000_000 + q * 10_000_000 + t) % 10_000_000 ≡ t
+pub seconds : (d q t : ℕ) → t < 10_000_000 → (d * 1_000_000_000 + q * 10_000_000 + t) % 10_000_000 ≡ t
 seconds d q t k = omega arith
 
 module _ (m : ℕ) where
@@ -270,7 +270,7 @@ unfolding low top
 low-top latitude = omega arith
 low-top longitude = omega arith
 
-east : (way : Way) (m : ℕ) → angleValue way m (plus way) ≡ pos m
+pub east : (way : Way) (m : ℕ) → angleValue way m (plus way) ≡ pos m
 unfolding angleValue plus minusOf signed _=?_ _&_
 east latitude m = refl
 east longitude m = refl

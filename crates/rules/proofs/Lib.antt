@@ -2,7 +2,9 @@
 pub mod Truth  -- tests that hold
 pub mod DigitLaws  -- digits
 pub mod Lawful  -- every kind of field: what is written reads back
+pub mod SetLaws  -- sets of characters are the lists of their members
 pub mod FormLaws  -- numbers and heights are what the paper says
+pub mod SpellLaws  -- and so is every kind of field, and every code
 pub mod FieldLaws  -- fields in a row
 pub mod RecordLaws  -- one record
 pub mod FileLaws  -- a file, and demand 3 for any edition
@@ -13,6 +15,7 @@ pub mod TableLaws  -- the table as it is filled, and the counts
 pub mod Chapter4Laws  -- Chapter 4 is sound, and its order is the paper's table
 pub mod Numbered  -- the number 0 is acceptance
 pub mod Keeping  -- what is kept of the records before
+pub mod AgreeLaws  -- agreement is what the paper says
 pub mod Conforming  -- accepted exactly when it conforms
 pub mod Demands  -- the demands
 pub mod Published  -- the published columns

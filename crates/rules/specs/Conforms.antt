@@ -1,46 +1,94 @@
--- What an accepted file is, record by record, in the paper's words.
+-- What an accepted file is, record by record, in the paper's words and without a test.
 use mathlib.Core.Path.{_≡_}
-use mathlib.Core.Logic.{_⊎_}
-use mathlib.Core.Bool.{Bool, true, false, not}
-use mathlib.Core.List.{List, [], _∷_, _++_, map}
-use Prim.Native.Nat.{ℕ, _≤_, _<_}
-use lib.ListN.{length, take, getD}
-use Rattle.rules.specs.Tests.{all, _&_}
-use Rattle.rules.specs.Characters.{isPrintable, anyOf}
-use Rattle.rules.specs.Items.{good}
-use Rattle.rules.specs.Fields.{formed, agreeing}
-use Rattle.rules.specs.Records.{Meaning, sequence, codeAt, entries}
+use mathlib.Core.Logic.{_⊎_, _↔_}
+use mathlib.Core.Bool.{cond}
+use mathlib.Core.List.{List, [], _∷_}
+use Prim.Native.Nat.{ℕ, zero, suc, _+_, _≤_, _<_}
+use lib.ListN.{length, take, getD, replicate}
+use Rattle.rules.specs.Tests.{_&_, _≤?_, _=?_}
+use Rattle.rules.specs.Characters.{printable}
+use Rattle.rules.specs.Items.{Value, gap, missing, text}
+use Rattle.rules.specs.Forms.{_∈_, _⊆_, charactersOf, Spells, Code}
+use Rattle.rules.specs.Fields.{Bond, free, notBefore, goesWith, expected, Field, columnsOf, valueAt, numOf}
+use Rattle.rules.specs.Records.{Meaning, sequence, codeAt, meaning, told}
 use Rattle.rules.specs.Files.{lineAt, begun, meanings}
-use Rattle.rules.specs.Faults.{before}
-use Rattle.rules.specs.Kinds.{kindOf, known, *AA*}
-use Rattle.rules.specs.Order.{mayCome, nothing, lastJob}
-use Rattle.rules.specs.References.{isA, numberAt, Referred}
-use Rattle.rules.specs.Chapter4.{Past, expectation, chapter4}
+use Rattle.rules.specs.Kinds.{kindOf, *AA*, *25*, *27*, *70*, *72*, *80*, *86*}
+use Rattle.rules.specs.Layouts.{layout}
+use Rattle.rules.specs.Order.{mayCome, placeNamed, nothing, firstJob, first27, second27, third27, lastJob}
+use Rattle.rules.specs.References.{numberAt, Referred}
+use Rattle.rules.specs.Chapter4.{chapter4}
 
--- record i + 1 of a file, whose line is l, after records that leave s behind
-pub record Stands (s : Past) (l : List ℕ) : Type 0 where
-  pub whole : length l ≡ 81
-  pub printed : all isPrintable (take 80 l) ≡ true  -- 80 bytes from 20 to 7E hexadecimal
-  pub fed : getD l 80 0 ≡ 10  -- then one line feed
-  pub coded : known (codeAt l) ≡ true
-  pub comes : anyOf (getD mayCome (s .place) []) (kindOf (codeAt l)) ≡ true  -- what may follow what
-  pub job : kindOf (codeAt l) ≡ *AA* → (s .place ≡ nothing) ⊎ (codeAt l ≡ s .job)  -- that job code
-  pub numbered : good sequence (take 6 l) ≡ true
-  pub its-fields : formed (entries chapter4 l) ≡ true  -- each of its kind and range
-  pub agrees : agreeing (expectation s (codeAt l)) (entries chapter4 l) ≡ true  -- with earlier ones
+-- ---- record i + 1 of a file: its kind, and what it means
+unfoldable pub kindAt : List ℕ → ℕ → ℕ
+kindAt f i = kindOf (codeAt (lineAt f i))
+
+unfoldable pub recordAt : List ℕ → ℕ → Meaning
+recordAt f i = meaning chapter4 (lineAt f i)
+
+-- record j + 1 is the last of kind k before record i + 1, and none of kind h has come since
+pub record Nearest (f : List ℕ) (k h j i : ℕ) : Type 0 where
+  pub before : j < i
+  pub its-kind : kindAt f j ≡ k
+  pub none-since : (x : ℕ) → j < x → x < i → (kindAt f x ≡ k → ⊥) × (kindAt f x ≡ h → ⊥)
+
+-- "a group is a *25* with what follows up to the next *25* or *70*": that of record i + 1 opens with record j + 1
+abbrev pub Group : List ℕ → ℕ → ℕ → Type 0
+Group f j i = Nearest f *25* *70* j i
+
+-- how many records of kind k stand between record j + 1 and record i + 1
+unfoldable pub between : List ℕ → (k j i : ℕ) → ℕ
+between f k j zero = 0
+between f k j (suc i) = cond (suc j ≤? i & kindAt f i =? k) 1 0 + between f k j i
+
+-- ---- 01, "What may follow what": the place p that the first i records make
+-- "first, second, third 27 of a group"
+pub record Measured (f : List ℕ) (i p : ℕ) : Type 0 where
+  pub its-kind : kindAt f i ≡ *27*
+  pub opened : ℕ
+  pub group : Group f opened i
+  pub most : between f *27* opened i < 3
+  pub place : p ≡ getD (first27 ∷ second27 ∷ third27 ∷ []) (between f *27* opened i) 0
+
+unfoldable pub Place : List ℕ → ℕ → ℕ → Type 0
+Place f zero p = p ≡ nothing
+Place f (suc i) p =
+    ((kindAt f i ≡ *AA*) × (i ≡ 0) × (p ≡ firstJob))
+    ⊎ (((kindAt f i ≡ *AA*) × (1 ≤ i) × (p ≡ lastJob))
+    ⊎ (Measured f i p
+    ⊎ ((kindAt f i ≡ *AA* → ⊥) × (kindAt f i ≡ *27* → ⊥) × (p ≡ placeNamed 0 0 (kindAt f i)))))
+
+-- ---- agreement
+-- what says nothing: a blank field, a missing number, a text of blanks
+unfoldable pub Absent : Value → Type 0
+Absent v = (v ≡ gap) ⊎ ((v ≡ missing) ⊎ ((w : ℕ) × (v ≡ text (replicate w 32))))
+
+-- 01, *12*: "the end not before the beginning"; *86*: "blank exactly when their height is missing"
+unfoldable pub Agreed : Meaning → Bond → Value → Type 0
+Agreed m free v = Unit {0}
+Agreed m (notBefore c) v = numberAt c m ≤ numOf v
+Agreed m (goesWith c) v = Absent v ↔ Absent (valueAt c (told chapter4 m))
+Agreed m expected v = Unit {0}  -- with another record: below
+
+-- ---- record i + 1 of a file
+pub record Stands (f : List ℕ) (i : ℕ) : Type 0 where
+  pub whole : length (lineAt f i) ≡ 81
+  pub printed : take 80 (lineAt f i) ⊆ charactersOf printable  -- "80 bytes from 20 to 7E hexadecimal"
+  pub fed : getD (lineAt f i) 80 0 ≡ 10  -- "then one line feed"
+  pub numbered : (q : Value) × Spells sequence (take 6 (lineAt f i)) q  -- "sequence number, blank or 1..999999"
+  pub coded : Code (codeAt (lineAt f i)) (kindAt f i)
+  pub comes : (p : ℕ) × Place f i p × (kindAt f i ∈ getD mayCome p [])  -- "what may follow what"
+  pub job : kindAt f i ≡ *AA* → (i ≡ 0) ⊎ (codeAt (lineAt f i) ≡ codeAt (lineAt f 0))  -- "the first record's job code"
+  -- each field of its kind and range, in agreement with the others
+  pub its-fields : (d : Field) → d ∈ layout (codeAt (lineAt f i)) → (v : Value) × Spells (d .item) (columnsOf d (lineAt f i)) v × Agreed (recordAt f i) (d .bond) v
+  -- "a *27* has its group's station"
+  pub measured : kindAt f i ≡ *27* → (j : ℕ) × Group f j i × (numberAt 11 (recordAt f i) ≡ numberAt 11 (recordAt f j))
+  -- "an *86* the station of the *80* before it"
+  pub paired : kindAt f i ≡ *86* → (j : ℕ) × Nearest f *80* *80* j i × (numberAt 11 (recordAt f i) ≡ numberAt 11 (recordAt f j))
+  -- "*70* records rise strictly by instrument number, *72* by antenna number"
+  pub rises : (kindAt f i ≡ *70*) ⊎ (kindAt f i ≡ *72*) → (j : ℕ) → j < i → kindAt f j ≡ kindAt f i → numberAt 11 (recordAt f j) < numberAt 11 (recordAt f i)
 
 pub record Conforms (f : List ℕ) : Type 0 where
   pub few : begun f ≤ 99_999
-  pub each : (i : ℕ) → i < begun f → Stands (before chapter4 f i) (lineAt f i)
-  pub ends : before chapter4 f (begun f) .place ≡ lastJob  -- nothing follows but the last job code
+  pub each : (i : ℕ) → i < begun f → Stands f i
+  pub ends : Place f (begun f) lastJob  -- "last job code: nothing"
   pub references : Referred (meanings chapter4 f)
-
--- ---- what is kept of the records before, said of the records
-unfoldable pub neither : ℕ → ℕ → Meaning → Bool
-neither j k m = not (isA j m) & not (isA k m)
-
--- n is the number of the last record of kind k, and no record of kind j has come since; 0 where none of either kind has come
-pub data Latest (k j : ℕ) : ℕ → List Meaning → Type 0 where
-  never : {ms : List Meaning} → all (neither j k) ms ≡ true → Latest k j 0 ms
-  last : (front : List Meaning) (m : Meaning) (others : List Meaning) → isA k m ≡ true → all (neither j k) others ≡ true → Latest k j (numberAt 11 m) (front ++ m ∷ others)
-  closed : (front : List Meaning) (m : Meaning) (others : List Meaning) → isA j m ≡ true → isA k m ≡ false → all (neither j k) others ≡ true → Latest k j 0 (front ++ m ∷ others)

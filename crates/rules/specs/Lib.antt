@@ -3,9 +3,9 @@ pub mod Tests  -- tests
 pub mod Characters  -- sets of characters
 pub mod Digits  -- digits and numbers
 pub mod Items  -- how a field is read, and written
-pub mod Forms  -- the same said without tests
 pub mod Fields  -- fields in a row, agreement, faults 9 and 10
 pub mod Kinds  -- the fourteen kinds and their codes
+pub mod Forms  -- fields and codes said without tests
 pub mod Layouts  -- the field tables
 pub mod Records  -- one record: judged, meant, written
 pub mod Files  -- the lines of a file, the verdict, the meaning, house style

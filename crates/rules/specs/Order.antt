@@ -81,15 +81,13 @@ mayCome =
     ∷ []  -- last job code: nothing
     ∷ []
 
--- the place that a record of a kind makes, by the paper's names of the places
-unfoldable pub placeAfter : ℕ → ℕ → ℕ
-placeAfter place kind = getD (job ∷ after10 ∷ after11 ∷ after12 ∷ after25 ∷ after25 ∷ measured ∷ after70 ∷ after72 ∷ after80 ∷ after86 ∷ after91 ∷ after92 ∷ after93 ∷ []) kind 0
-  where
-    job : ℕ
-    job = cond (place =? nothing) firstJob lastJob
+-- the place that a record of a kind makes, by the paper's names of the places; for a job code and a *27* it goes by what stands before
+unfoldable pub placeNamed : (job measured kind : ℕ) → ℕ
+placeNamed job measured kind = getD (job ∷ after10 ∷ after11 ∷ after12 ∷ after25 ∷ after25 ∷ measured ∷ after70 ∷ after72 ∷ after80 ∷ after86 ∷ after91 ∷ after92 ∷ after93 ∷ []) kind 0
 
-    measured : ℕ
-    measured = cond (place =? first27) second27 (cond (place =? second27) third27 first27)
+unfoldable pub placeAfter : ℕ → ℕ → ℕ
+placeAfter place kind =
+    placeNamed (cond (place =? nothing) firstJob lastJob) (cond (place =? first27) second27 (cond (place =? second27) third27 first27)) kind
 
 -- what the paper says of a kind at a place: the place that it makes, 0 where it may not come
 unfoldable pub ruled : ℕ → ℕ → ℕ

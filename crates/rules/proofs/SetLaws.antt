@@ -1,0 +1,128 @@
+-- The test of each set of characters is the list of its members: tried on the first 128 characters, and no set has another.
+use mathlib.Core.Path.{_≡_, refl, sym, _∙_, ap, ap₂, subst}
+use mathlib.Core.Logic.{_⊎_, inl, inr, _↔_}
+use mathlib.Core.Bool.{Bool, true, false, cond, false≢true}
+use mathlib.Core.List.{List, [], _∷_, _++_, map}
+use Prim.Native.Nat.{ℕ, _≤_, _<_}
+use native.Mathlib.Omega.{arith}
+use lib.ListN.{replicate, length}
+use Rattle.rules.specs.Tests.{all, within, _&_, _≤?_, _=?_}
+use Rattle.rules.specs.Characters.{ascii, isPrintable, isBlank, isDigit, isLetter, anyOf, titleMarks, isTitle, Set, letter, digit, space, printable, title, name, only, _or_, member}
+use Rattle.rules.specs.Fields.{sameTruth}
+use Rattle.rules.specs.Forms.{_∈_, _⊆_, charactersOf}
+use Rattle.rules.proofs.Truth.{both, and, to≤, of≤, no≤, to≡, of≡, is-no, cases, choice, not-both, to-within, under, tried, all-weaken}
+use Rattle.rules.proofs.Lawful.{member-printable}
+
+-- ---- a test of members is a test of the list
+module _ {A : Type 0} (p : A → Bool) where
+  pub all-members : (xs : List A) → all p xs ≡ true → (x : A) → x ∈ xs → p x ≡ true
+  unfolding all _∈_
+  all-members [] h x m = absurd m
+  all-members (y ∷ ys) h x (inl e) = rw e (both h .0)
+  all-members (y ∷ ys) h x (inr m) = all-members ys (both h .1) x m
+
+  pub members-all : (xs : List A) → ((x : A) → x ∈ xs → p x ≡ true) → all p xs ≡ true
+  unfolding all _∈_
+  members-all [] f = refl
+  members-all (y ∷ ys) f = and (f y (inl refl)) (members-all ys (λ x m. f x (inr m)))
+
+pub any-member : (cs : List ℕ) (b : ℕ) → anyOf cs b ≡ true → b ∈ cs
+unfolding anyOf _∈_
+any-member [] b h = absurd (false≢true h)
+any-member (c ∷ cs) b h = choice (b =? c) (anyOf cs b) h _ (λ e. inl (to≡ e)) (λ e. inr (any-member cs b e))
+
+pub member-any : (cs : List ℕ) (b : ℕ) → b ∈ cs → anyOf cs b ≡ true
+unfolding anyOf _∈_
+member-any [] b m = absurd m
+member-any (c ∷ cs) b (inl e) = rw (of≡ e)
+member-any (c ∷ cs) b (inr m) = cases (b =? c) (λ e. rw e) (λ e. rw e (member-any cs b m))
+
+any-append : (cs ds : List ℕ) (b : ℕ) → anyOf (cs ++ ds) b ≡ cond (anyOf cs b) true (anyOf ds b)
+unfolding anyOf
+any-append [] ds b = refl
+any-append (c ∷ cs) ds b = cases (b =? c) (λ e. rw e) (λ e. rw e (any-append cs ds b))
+
+-- ---- the sets that are spelled out
+low : ℕ → Bool
+low c = c ≤? 127
+
+none-above : (cs : List ℕ) (b : ℕ) → all low cs ≡ true → 127 < b → anyOf cs b ≡ false
+none-above cs b h k = is-no (anyOf cs b) (λ e. let m : b ≤ 127 = to≤ (unfold low in all-members low cs h b (any-member cs b e)) in omega arith)
+
+no-member-above : (s : Set) (b : ℕ) → 127 < b → member s b ≡ false
+no-member-above s b k = is-no (member s b) (λ e. omega (arith, below (member-printable s b e)))
+  where
+    below : isPrintable b ≡ true → b ≤ 126
+    below p = unfold isPrintable in to-within p .1
+
+-- both lists and tests end below 128, so that trying these is enough
+listed : Set → ℕ → Bool
+listed s b = sameTruth (member s b) (anyOf (charactersOf s) b)
+
+pub same-truth : (a b : Bool) → sameTruth a b ≡ true → a ≡ b
+unfolding sameTruth
+same-truth true true h = refl
+same-truth true false h = absurd (false≢true h)
+same-truth false true h = absurd (false≢true h)
+same-truth false false h = refl
+
+by-trial : (s : Set) → all (listed s) (under 128) ≡ true → all low (charactersOf s) ≡ true → (b : ℕ) → member s b ≡ anyOf (charactersOf s) b
+unfolding listed
+by-trial s h k b =
+    cases (b ≤? 127)
+    (λ e. let small : b ≤ 127 = to≤ e in same-truth (member s b) (anyOf (charactersOf s) b) (tried (listed s) 128 b h (omega arith)))
+    (λ e. no-member-above s b (no≤ e) ∙ sym (none-above (charactersOf s) b k (no≤ e)))
+
+one-only : (c b : ℕ) → isPrintable b & b =? c ≡ anyOf (cond (isPrintable c) (c ∷ []) []) b
+one-only c b =
+    cases (b =? c)
+    (λ e. rw (ap isPrintable (to≡ e), e) (alone e (isPrintable c)))
+    (λ e. rw e (none e (isPrintable c) (isPrintable b)))
+  where
+    alone : b =? c ≡ true → (t : Bool) → t & true ≡ anyOf (cond t (c ∷ []) []) b
+    alone e true = unfold anyOf _&_ in rw e
+    alone e false = unfold anyOf _&_ in refl
+
+    none : b =? c ≡ false → (t u : Bool) → u & false ≡ anyOf (cond t (c ∷ []) []) b
+    none e true true = unfold anyOf _&_ in rw e
+    none e true false = unfold anyOf _&_ in rw e
+    none e false true = unfold anyOf _&_ in refl
+    none e false false = unfold anyOf _&_ in refl
+
+pub listed-is : (s : Set) (b : ℕ) → member s b ≡ anyOf (charactersOf s) b
+unfolding charactersOf member listed low all under sameTruth anyOf ascii isTitle titleMarks isLetter isDigit isBlank isPrintable within _&_ _≤?_ _=?_
+listed-is letter b = by-trial letter refl refl b
+listed-is digit b = by-trial digit refl refl b
+listed-is space b = by-trial space refl refl b
+listed-is printable b = by-trial printable refl refl b
+listed-is title b = by-trial title refl refl b
+listed-is name b = by-trial name refl refl b
+listed-is (only c) b = one-only c b
+listed-is (s or t) b = rw (listed-is s b, listed-is t b) (sym (any-append (charactersOf s) (charactersOf t) b))
+
+-- ---- of one character, and of every column
+pub in-set : (s : Set) (b : ℕ) → member s b ≡ true → b ∈ charactersOf s
+in-set s b h = any-member (charactersOf s) b (sym (listed-is s b) ∙ h)
+
+pub of-set : (s : Set) (b : ℕ) → b ∈ charactersOf s → member s b ≡ true
+of-set s b m = listed-is s b ∙ member-any (charactersOf s) b m
+
+pub all-in : (s : Set) (bs : List ℕ) → all (member s) bs ≡ true → bs ⊆ charactersOf s
+unfolding _⊆_
+all-in s bs h b m = in-set s b (all-members (member s) bs h b m)
+
+pub all-of : (s : Set) (bs : List ℕ) → bs ⊆ charactersOf s → all (member s) bs ≡ true
+unfolding _⊆_
+all-of s bs f = members-all (member s) bs (λ b m. of-set s b (f b m))
+
+pub digits-in : (bs : List ℕ) → all isDigit bs ≡ true → bs ⊆ charactersOf digit
+digits-in bs h = all-in digit bs (all-weaken isDigit (member digit) (λ b k. unfold member in k) bs h)
+
+pub digits-of : (bs : List ℕ) → bs ⊆ charactersOf digit → all isDigit bs ≡ true
+digits-of bs f = all-weaken (member digit) isDigit (λ b k. unfold member in k) bs (all-of digit bs f)
+
+pub printed-in : (bs : List ℕ) → all isPrintable bs ≡ true → bs ⊆ charactersOf printable
+printed-in bs h = all-in printable bs (all-weaken isPrintable (member printable) (λ b k. unfold member in k) bs h)
+
+pub printed-of : (bs : List ℕ) → bs ⊆ charactersOf printable → all isPrintable bs ≡ true
+printed-of bs f = all-weaken (member printable) isPrintable (λ b k. unfold member in k) bs (all-of printable bs f)
