@@ -10,8 +10,8 @@ use Rattle.rules.specs.Tests.{_&_, _≤?_, _=?_, within, all}
 use Rattle.rules.specs.Characters.{isPrintable, isBlank, member}
 use Rattle.rules.specs.Items.{Value, Way, width, gap, num, text, Item, blank, constant, number, height, angle, month, media, word, Test, each, orBlank, passes, isMedia, onText, onLabel, fits}
 use Rattle.rules.specs.Fields.{Field, Expect, anything, Verdict, ok, fault, check, _⨾_, isOk, Entry, given, entriesOf, agrees, judgeEach, judge, covers}
-use Rattle.rules.specs.Records.{Meaning, sequence, knownCode, told, ofKind, judgeGiven}
-use Rattle.rules.specs.Kinds.{kindOf}
+use Rattle.rules.specs.Records.{Meaning, sequence, told, ofKind, judgeGiven}
+use Rattle.rules.specs.Kinds.{kindOf, known}
 use Rattle.rules.specs.Layouts.{at, tied, station, instrument, antenna, initials, state, anyText, metres, letterOrBlank, kept, titled, project, occupation, comment, measurement, receiver, aerial, point, heights, layouts, layout}
 use Rattle.rules.specs.Calls.{writeVerdict, writeOutput}
 use Rattle.rules.specs.Chapter4.{chapter4}
@@ -267,7 +267,7 @@ module _ (room : ℕ) (ws : List ℤ) (x y z : List ℕ) where
   parted = sym (⨾-assoc _ _ _)
 
   -- the kind and the characters of a job code, at column 7
-  code-refused : knownCode chapter4 (codeOf (words.given ws)) ≡ false → wordsVerdict room ws x y z ≡ leftOfCode room ws ⨾ fault 9 7
+  code-refused : known (codeOf (words.given ws)) ≡ false → wordsVerdict room ws x y z ≡ leftOfCode room ws ⨾ fault 9 7
   code-refused h =
       let e : ofKind chapter4 (kindNumber (words.given ws)) whole ≡ false = unfold ofKind meaningOf in rw h (unfold _&_ in refl) in
       parted ∙ rw e (unfold check _⨾_ in refl)

@@ -7,9 +7,8 @@ use lib.IntN.{pos}
 use Rattle.rules.specs.Tests.{_&_, _≤?_, _=?_, within, all}
 use Rattle.rules.specs.Characters.{ascii, isPrintable, isBlank, isDigit, isLetter, isTitle, anyOf, titleMarks, letter, digit, _or_, member}
 use Rattle.rules.specs.Items.{Item, blank, constant, number, height, angle, month, media, word, each, orBlank, num, onNumber, fits, top, isMonth, isMedia}
-use Rattle.rules.specs.Records.{sequence, knownCode}
-use Rattle.rules.specs.Chapter4.{chapter4}
-use Rattle.rules.specs.Kinds.{starred, kindBetween, kindOf}
+use Rattle.rules.specs.Records.{sequence}
+use Rattle.rules.specs.Kinds.{starred, kindBetween, kindOf, known}
 use Rattle.rules.specs.Layouts as L
 use Rattle.rules.specs.Layouts.{layouts}
 
@@ -74,12 +73,12 @@ module _ (maker day year session : ℕ) (mark : List ℕ) where
       rw (e, no-and (isLetter maker & within 1 366 day & year ≤? 9)) (unfold _&_ in refl)
 
 -- ---- a job code with a character that is none, as a kind outside 0..13 and a lacking character give it
-pub first-unknown : (b : ℕ) → knownCode chapter4 (42 ∷ 0 ∷ b ∷ 42 ∷ []) ≡ false
-unfolding knownCode kindOf _≤?_ starred _&_ _=?_ kindBetween isDigit within isLetter
+pub first-unknown : (b : ℕ) → known (42 ∷ 0 ∷ b ∷ 42 ∷ []) ≡ false
+unfolding known kindOf _≤?_ starred _&_ _=?_ kindBetween isDigit within isLetter
 first-unknown b = refl
 
-pub second-unknown : (a : ℕ) → knownCode chapter4 (42 ∷ a ∷ 0 ∷ 42 ∷ []) ≡ false
-unfolding knownCode kindOf starred kindBetween
+pub second-unknown : (a : ℕ) → known (42 ∷ a ∷ 0 ∷ 42 ∷ []) ≡ false
+unfolding known kindOf starred kindBetween
 second-unknown a =
     let d : isDigit 0 ≡ false = unfold isDigit within _&_ _≤?_ in refl in
     let e : member (letter or digit) 0 ≡ false = unfold member isLetter isDigit within _&_ _≤?_ in refl in

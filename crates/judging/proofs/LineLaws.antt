@@ -12,8 +12,8 @@ use Rattle.rules.specs.Characters.{isPrintable}
 use Rattle.rules.specs.Items.{number, good, spot}
 use Rattle.rules.specs.Fields.{Expect, Verdict, ok, fault, check, _⨾_, isOk, read, judge}
 use Rattle.rules.specs.Layouts.{layouts, kept, layout}
-use Rattle.rules.specs.Kinds.{kindOf}
-use Rattle.rules.specs.Records.{sequence, bytes, codeAt, knownCode, entries, numbered, readLine}
+use Rattle.rules.specs.Kinds.{kindOf, known}
+use Rattle.rules.specs.Records.{sequence, bytes, codeAt, entries, numbered, readLine}
 use Rattle.rules.specs.Chapter4.{chapter4}
 use Rattle.rules.proofs.Truth.{both, to≤, of≤, of>, to≡, true-and}
 use Rattle.rules.proofs.RecordLaws.{bytes-length}
@@ -73,9 +73,9 @@ module _ (l : List ℕ) where
 
   module _ (j : Judged) (p : j ≡ judgedOf (bytes 80 1 l)) (q : j ≡ Judged.Good) (k : ℕ) (z : k ≡ kindOf (codeAt l)) where
     pub alone-code : 13 < k → Judged.Bad 6 7 ≡ judgedOf (readLine chapter4 l)
-    unfolding readLine knownCode check _⨾_ judgedOf
+    unfolding readLine known check _⨾_ judgedOf
     alone-code h = rw (good-is (bytes 80 1 l) (sym p ∙ q), ← z, of> h)
 
     pub alone-fields : k ≤ 13 → {r : Judged} → r ≡ judgedOf (numbered chapter4 l ⨾ judge (expectOf X.Anything) (map (read l) (getD layouts k kept))) → r ≡ judgedOf (readLine chapter4 l)
-    unfolding readLine knownCode entries layout check _⨾_ expectOf
+    unfolding readLine known entries layout check _⨾_ expectOf
     alone-fields h e = e ∙ sym (rw (good-is (bytes 80 1 l) (sym p ∙ q), ← z, of≤ h))

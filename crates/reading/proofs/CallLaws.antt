@@ -10,8 +10,8 @@ use Rattle.rules.specs.Tests.{_&_, _≤?_, _=?_, within}
 use Rattle.rules.specs.Items.{gap, valueOf}
 use Rattle.rules.specs.Fields.{Verdict, ok, fault, isOk, values}
 use Rattle.rules.specs.Layouts.{layouts, kept, layout}
-use Rattle.rules.specs.Kinds.{kindOf}
-use Rattle.rules.specs.Records.{sequence, codeAt, knownCode, readLine, meaning, formedLine}
+use Rattle.rules.specs.Kinds.{kindOf, known}
+use Rattle.rules.specs.Records.{sequence, codeAt, readLine, meaning, formedLine}
 use Rattle.rules.specs.Files.{lineAt, begun}
 use Rattle.rules.specs.Calls.{unread, readAs, readOf, isRead, fieldWidth, widthAsked, fieldOffset, fieldOf}
 use Rattle.rules.specs.Calls as calls
@@ -41,7 +41,7 @@ module _ (l : List ℕ) (h : isOk (readLine chapter4 l) ≡ true) where
   formed = both (sym (readLine-splits chapter4 l) ∙ h) .0
 
   reads-kind : kindOf (codeAt l) < 14
-  unfolding formedLine knownCode
+  unfolding formedLine known
   reads-kind = omega (arith, to≤ (both (both (both formed .0) .0) .1))
 
   reads-long : 80 < length l

@@ -9,8 +9,8 @@ use lib.Seq.{take-at, drop-at, drop-drop, length-take-le}
 use lib.IntN.{pos}
 use Rattle.rules.specs.Tests.{_&_, _≤?_}
 use Rattle.rules.specs.Items.{num}
-use Rattle.rules.specs.Records.{codeAt, knownCode, meaning, lineOf, style, formedLine}
-use Rattle.rules.specs.Kinds.{kindOf}
+use Rattle.rules.specs.Records.{codeAt, meaning, lineOf, style, formedLine}
+use Rattle.rules.specs.Kinds.{kindOf, known}
 use Rattle.rules.specs.Files.{lineAt, begun, linesFrom, lines, join, meanings, styles, houseStyle, rewritten, formedLines}
 use Rattle.rules.specs.Chapter4.{chapter4}
 use Rattle.rules.proofs.Truth.{both, to≤}
@@ -72,7 +72,7 @@ module _ (f o₀ : List ℕ) (n : ℕ) (o : List ℕ) (i : ℕ) (g : Laying f o�
         omega arith
 
     pub lay-known : (k : ℕ) → k ≡ kindOf (codeAt l) → k < 14
-    unfolding formedLine knownCode
+    unfolding formedLine known
     lay-known k e = let q : kindOf (codeAt l) ≤ 13 = to≤ (both (both (both lay-formed .0) .0) .1) in omega arith
 
     pub lay-next : (s : List ℕ) → s ≡ lineOf chapter4 (num (pos (10 * (i + 1)))) (meaning chapter4 l)

@@ -11,8 +11,8 @@ use Rattle.rules.specs.Characters.{ascii, isDigit, isLetter, letter, digit, _or
 use Rattle.rules.specs.Digits.{val}
 use Rattle.rules.specs.Items.{Value, gap, missing, num, text, label, Item, blank, constant, number, height, angle, month, media, word, isMedia, onGap, onNumber, onText, onLabel, fits}
 use Rattle.rules.specs.Fields.{Field, given, entriesOf, isFormed, formed}
-use Rattle.rules.specs.Records.{Meaning, knownCode, told, meant}
-use Rattle.rules.specs.Kinds.{dataCodes, kindFrom, starred, kindBetween, kindOf}
+use Rattle.rules.specs.Records.{Meaning, told, meant}
+use Rattle.rules.specs.Kinds.{dataCodes, kindFrom, starred, kindBetween, kindOf, known}
 use Rattle.rules.specs.Layouts.{at, tied, station, instrument, antenna, initials, state, anyText, metres, letterOrBlank, kept, titled, project, occupation, comment, measurement, receiver, aerial, point, heights, layouts, layout}
 use Rattle.rules.specs.Chapter4.{chapter4}
 use Rattle.rules.proofs.Truth.{both, to≤, to≡, of≢, cases, to-within}
@@ -220,7 +220,7 @@ abbrev pub textsOf : Meaning → List (List ℕ)
 textsOf m = texts (layout (m .code)) (λ i. getD (m .values) i gap)
 
 pub meaning-back : (m : Meaning) → meant chapter4 m ≡ true → meaningOf (recordOf m) (getD (textsOf m) 0 []) (getD (textsOf m) 1 []) (getD (textsOf m) 2 []) ≡ m
-unfolding meant told knownCode meaningOf recordOf layout
+unfolding meant told known meaningOf recordOf layout
 meaning-back m h =
     let v : ℕ → Value = λ i. getD (m .values) i gap in
     let rows = all-back (getD layouts (kindOf (m .code)) kept) (m .values) (to≡ (both (both h .1) .0)) (both (both h .1) .1) in

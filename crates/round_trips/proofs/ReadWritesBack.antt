@@ -9,8 +9,8 @@ use lib.IntN.{pos, negsuc}
 use Rattle.rules.specs.Tests.{_&_, _≤?_, within}
 use Rattle.rules.specs.Items.{Value, gap, missing, num, text, label, valueOf, fits, onNumber}
 use Rattle.rules.specs.Fields.{Verdict, ok, fault, check, _⨾_, isOk}
-use Rattle.rules.specs.Records.{sequence, codeAt, readLine, meaning, judgeGiven, lineOf, formedLine, knownCode, meant}
-use Rattle.rules.specs.Kinds.{kindOf}
+use Rattle.rules.specs.Records.{sequence, codeAt, readLine, meaning, judgeGiven, lineOf, formedLine, meant}
+use Rattle.rules.specs.Kinds.{kindOf, known}
 use Rattle.rules.specs.Layouts.{layout}
 use Rattle.rules.specs.Files.{lineAt, begun}
 use Rattle.rules.specs.Calls.{readAs, readOf, writeVerdict, writeOutput}
@@ -90,7 +90,7 @@ module _ (file : List ℕ) (n : ℕ) (s : Sequence) (w : Record) (was-read : Pro
       ∙ number-back (valueOf sequence (take 6 line)) (good-fits sequence (take 6 line) (line-numbered chapter4 line is-formed))
 
   same-kind : kindNumber w ≡ kindOf (codeAt line)
-  unfolding recordOf meaning meant knownCode
+  unfolding recordOf meaning meant known
   same-kind =
       ap kindNumber (taken s w file n promised .values)
       ∙ kind-from (kindOf (codeAt line)) (codeAt line) (λ i. getD (meaning chapter4 line .values) i gap) (to≤ (both (line-meant chapter4 line is-formed) .0))

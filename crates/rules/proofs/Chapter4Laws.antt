@@ -1,24 +1,23 @@
 -- Chapter 4 is a sound edition: its codes have four characters, its layouts fill columns 11-80, its references are judged in the paper's order.
 use mathlib.Core.Path.{_≡_, refl, sym, _∙_, ap, ap₂}
-use mathlib.Core.Bool.{Bool, true, false, cond, false≢true}
+use mathlib.Core.Bool.{Bool, true}
 use mathlib.Core.List.{List, [], _∷_, map}
 use Prim.Native.Nat.{ℕ, zero, suc, _+_, _-_, _≤_, _<_}
 use native.Mathlib.Omega.{arith}
 use lib.ListN.{length, take, drop, getD}
 use lib.Seq.{drop-drop}
-use Rattle.rules.specs.Tests.{all, within, _&_, _≤?_, _=?_}
+use Rattle.rules.specs.Tests.{all, _&_, _≤?_, _=?_}
 use Rattle.rules.specs.Characters.{isPrintable, isDigit, isLetter, anyOf, letter, digit, _or_, member}
-use Rattle.rules.specs.Digits.{val}
-use Rattle.rules.specs.Items.{latitude, longitude, columns, width, valueOf}
-use Rattle.rules.specs.Fields.{Field, Check, columnsOf, values, covers}
-use Rattle.rules.specs.Records.{Meaning, Edition, codeAt, knownCode, meaning}
+use Rattle.rules.specs.Items.{columns, width, valueOf}
+use Rattle.rules.specs.Fields.{Field, columnsOf, values, covers}
+use Rattle.rules.specs.Records.{codeAt, meaning}
 use Rattle.rules.specs.Files.{lines, meanings}
-use Rattle.rules.specs.Kinds.{dataCodes, kindFrom, starred, kindBetween, kindOf}
+use Rattle.rules.specs.Kinds.{starred, kindBetween, kindOf, known}
 use Rattle.rules.specs.Layouts.{at, tied, station, instrument, antenna, initials, state, anyText, metres, letterOrBlank, kept, titled, project, occupation, comment, measurement, receiver, aerial, point, heights, layouts, layout}
 use Rattle.rules.specs.Order.{mayCome, placeNamed, placeAfter, ruled, order, goto}
 use Rattle.rules.specs.References.{refChecks}
 use Rattle.rules.specs.Faults.{stage, phase}
-use Rattle.rules.specs.Chapter4.{Past, chapter4}
+use Rattle.rules.specs.Chapter4.{chapter4}
 use Rattle.rules.proofs.Truth.{both, and, to≤, to≡, of-within, cases, choice, either, below-or-equal, all-getD}
 use Rattle.rules.proofs.Lawful.{digit-printable, letter-printable}
 use Rattle.rules.proofs.RecordLaws.{Sound}
@@ -65,12 +64,12 @@ spelled (a ∷ b ∷ c ∷ d ∷ []) e h =
     star x z = unfold isPrintable in of-within (omega arith) (omega arith)
 spelled (a ∷ b ∷ c ∷ d ∷ x ∷ xs) e h = absurd (omega (arith, to≡ (both (both e .0) .0)))
 
-known-four : (c : List ℕ) → kindOf c ≤? 13 ≡ true → (length c ≡ 4) × (all isPrintable c ≡ true)
-unfolding kindOf
+known-four : (c : List ℕ) → known c ≡ true → (length c ≡ 4) × (all isPrintable c ≡ true)
+unfolding known kindOf
 known-four c h = cases (starred c) (λ e. spelled c e (rw e at h)) (λ e. absurd (omega (arith, to≤ (rw e at h))))
 
 pub sound : Sound chapter4
-sound = record { four = λ c h. known-four c (unfold knownCode in h); filled = λ c h. layout-covers c }
+sound = record { four = known-four; filled = λ c h. layout-covers c }
 
 pub sound-refs : SoundRefs chapter4
 sound-refs = record {
@@ -88,11 +87,11 @@ unfolding allBelow
 below-holds zero p h i k = absurd (omega arith)
 below-holds (suc n) p h i k = either (λ l. below-holds n p (both h .1) i l) (λ e. rw e (both h .0)) (below-or-equal i n (omega arith))
 
-order-agrees : allBelow 17 (λ p. allBelow 14 (λ k. goto p k =? ruled p k)) ≡ true
+order-agrees : allBelow 17 (λ p. allBelow 14 (λ k. goto order p k =? ruled p k)) ≡ true
 unfolding allBelow goto ruled order mayCome placeAfter placeNamed anyOf _=?_ _&_
 order-agrees = refl
 
-pub order-is-the-table : (place kind : ℕ) → place < 17 → kind < 14 → goto place kind ≡ ruled place kind
+pub order-is-the-table : (place kind : ℕ) → place < 17 → kind < 14 → goto order place kind ≡ ruled place kind
 order-is-the-table place kind p k = to≡ (below-holds 14 _ (below-holds 17 _ order-agrees place p) kind k)
 
 -- ---- columns 1-6 have no meaning: lines that differ in them only mean the same, and so do files

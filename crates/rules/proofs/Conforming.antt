@@ -11,12 +11,12 @@ use Rattle.rules.specs.Tests.{all, _&_, _≤?_, _=?_}
 use Rattle.rules.specs.Characters.{isPrintable, anyOf}
 use Rattle.rules.specs.Items.{valueOf, good}
 use Rattle.rules.specs.Fields.{expected, Field, Expect, anything, same, above, check, isOk, columnsOf, read, isFormed, formed, meets, agreeing, numOf}
-use Rattle.rules.specs.Records.{Edition, sequence, bytes, codeAt, knownCode, entries, meaning, formedLine, permitted}
+use Rattle.rules.specs.Records.{Edition, sequence, bytes, codeAt, entries, meaning, formedLine, permitted}
 use Rattle.rules.specs.Files.{lineAt, begun, lines, meanings, passed, accepted, formedLines, orderly}
 use Rattle.rules.specs.Faults.{before}
 use Rattle.rules.specs.Kinds.{kindOf, known, *AA*, *25*, *27*, *70*, *72*, *80*, *86*}
 use Rattle.rules.specs.Layouts.{layout}
-use Rattle.rules.specs.Order.{mayCome, placeNamed, placeAfter, ruled, goto, nothing, lastJob}
+use Rattle.rules.specs.Order.{mayCome, placeNamed, placeAfter, ruled, order, goto, nothing, lastJob}
 use Rattle.rules.specs.References.{numberAt}
 use Rattle.rules.specs.Chapter4.{Past, atStart, sameBytes, mayStand, expectation, chapter4}
 use Rattle.rules.specs.Forms.{_∈_, Spells}
@@ -56,7 +56,7 @@ leads-on : allBelow 17 (λ p. allBelow 14 (λ k. 1 ≤? placeAfter p k)) ≡ tru
 unfolding allBelow placeAfter placeNamed _≤?_ _=?_ _&_
 leads-on = refl
 
-comes-iff : (p k : ℕ) → p < 17 → k < 14 → (1 ≤? goto p k ≡ true) ↔ (anyOf (getD mayCome p []) k ≡ true)
+comes-iff : (p k : ℕ) → p < 17 → k < 14 → (1 ≤? goto order p k ≡ true) ↔ (anyOf (getD mayCome p []) k ≡ true)
 unfolding ruled
 comes-iff p k h j = (
   (λ e. cases (anyOf (getD mayCome p []) k) (λ t. t) (λ t. absurd (omega (arith, to≤ e, order-is-the-table p k h j ∙ zero-then t)))),
@@ -171,12 +171,12 @@ short-line f i = length-take-most 81 (drop (81 * i) f)
 
 -- ---- a judged record stands as the paper says
 module _ (f : List ℕ) (n : ℕ) (many : n ≤ begun f) (form : (x : ℕ) → x < n → formedLine chapter4 (lineAt f x) ≡ true) (turn : (x : ℕ) → x < n → permitted chapter4 (before chapter4 f x) (recordAt f x) ≡ true) where
-  known-here : (x : ℕ) → x < n → knownCode chapter4 (codeAt (lineAt f x)) ≡ true
+  known-here : (x : ℕ) → x < n → known (codeAt (lineAt f x)) ≡ true
   unfolding formedLine
   known-here x h = both (both (both (form x h) .0) .0) .1
 
   kind-here : (x : ℕ) → x < n → kindAt f x ≤ 13
-  unfolding knownCode kindAt
+  unfolding known kindAt
   kind-here x h = to≤ (known-here x h)
 
   formed-here : (x : ℕ) → x < n → formed (entries chapter4 (lineAt f x)) ≡ true
@@ -240,7 +240,7 @@ module _ (f : List ℕ) (n : ℕ) (many : n ≤ begun f) (form : (x : ℕ) → x
         printed = printed-in (take 80 l) (b .0);
         fed = b .1;
         numbered = (valueOf sequence (take 6 l), spelled-iff sequence (take 6 l) _ .0 (number-good (form i h), refl));
-        coded = code-iff (codeAt l) (kindAt f i) .0 (known-code (known-here i h), kind-of);
+        coded = code-iff (codeAt l) (kindAt f i) .0 (known-here i h, kind-of);
         comes = (before chapter4 f i .place, place-here i (omega arith) .place, any-member _ _ (comes-iff _ (kindAt f i) (place-here i (omega arith) .small) (omega (arith, kind-here i h)) .0 (order-good (turn i h))));
         job = job-here i h;
         its-fields = λ d m. (valueOf (d .item) (columnsOf d l), spelled-iff (d .item) (columnsOf d l) _ .0 (field-good l (formed-here i h) d m, refl), unfold recordAt in agreeing-each _ l (agreeing-here i h) d m);
@@ -252,13 +252,10 @@ module _ (f : List ℕ) (n : ℕ) (many : n ≤ begun f) (form : (x : ℕ) → x
       number-good : formedLine chapter4 (lineAt f i) ≡ true → good sequence (take 6 (lineAt f i)) ≡ true
       number-good t = unfold formedLine in both (both t .0) .1
 
-      known-code : knownCode chapter4 (codeAt (lineAt f i)) ≡ true → known (codeAt (lineAt f i)) ≡ true
-      known-code t = unfold known knownCode in t
-
       kind-of : kindOf (codeAt (lineAt f i)) ≡ kindAt f i
       kind-of = unfold kindAt in refl
 
-      order-good : permitted chapter4 (before chapter4 f i) (recordAt f i) ≡ true → 1 ≤? goto (before chapter4 f i .place) (kindAt f i) ≡ true
+      order-good : permitted chapter4 (before chapter4 f i) (recordAt f i) ≡ true → 1 ≤? goto order (before chapter4 f i .place) (kindAt f i) ≡ true
       order-good t = unfold permitted mayStand recordAt meaning kindAt in both (both t .0) .0
 
 -- ---- a record that stands as the paper says is judged good
@@ -266,8 +263,8 @@ module _ (f : List ℕ) (i : ℕ) (t : Stands f i) where
   its-number : good sequence (take 6 (lineAt f i)) ≡ true
   its-number = spelled-iff sequence (take 6 (lineAt f i)) _ .1 (t .numbered .1) .0
 
-  its-code : knownCode chapter4 (codeAt (lineAt f i)) ≡ true
-  its-code = unfold knownCode known in code-iff (codeAt (lineAt f i)) (kindAt f i) .1 (t .coded) .0
+  its-code : known (codeAt (lineAt f i)) ≡ true
+  its-code = code-iff (codeAt (lineAt f i)) (kindAt f i) .1 (t .coded) .0
 
   its-good : formed (entries chapter4 (lineAt f i)) ≡ true
   its-good = good-fields (lineAt f i) (λ d m. spelled-iff (d .item) (columnsOf d (lineAt f i)) _ .1 (t .its-fields d m .1) .0)
@@ -278,7 +275,7 @@ module _ (f : List ℕ) (i : ℕ) (t : Stands f i) where
 
   its-kind : kindAt f i ≤ 13
   unfolding kindAt
-  its-kind = to≤ (unfold knownCode in its-code)
+  its-kind = to≤ (unfold known in its-code)
 
   its-agreement : (d : Field) → d ∈ layout (codeAt (lineAt f i)) → Agreed (meaning chapter4 (lineAt f i)) (d .bond) (valueOf (d .item) (columnsOf d (lineAt f i)))
   unfolding recordAt
@@ -288,7 +285,7 @@ module _ (f : List ℕ) (i : ℕ) (t : Stands f i) where
     place : Placed f i (before chapter4 f i .place)
     place = placed f i (omega arith) kinds turn i (omega arith)
 
-    in-order : 1 ≤? goto (before chapter4 f i .place) (kindAt f i) ≡ true
+    in-order : 1 ≤? goto order (before chapter4 f i .place) (kindAt f i) ≡ true
     in-order =
         let c = t .comes in
         let e : c .0 ≡ before chapter4 f i .place = place-one f i _ _ (c .1) (place .place) in

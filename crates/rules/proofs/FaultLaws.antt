@@ -1,18 +1,18 @@
 -- Demand 2 for one record: each judge names the first of the faults that there are.
-use mathlib.Core.Path.{_≡_, refl, sym, _∙_, ap, ap₂, subst}
+use mathlib.Core.Path.{_≡_, refl, sym, _∙_, ap}
 use mathlib.Core.Logic.{_⊎_, inl, inr}
-use mathlib.Core.Bool.{Bool, true, false, cond, false≢true, true≢false}
-use mathlib.Core.List.{List, [], _∷_, _++_, map}
-use Prim.Native.Nat.{ℕ, zero, suc, _+_, _-_, _*_, _≤_, _<_}
+use mathlib.Core.Bool.{Bool, true, false, true≢false}
+use mathlib.Core.List.{List, [], _∷_, map}
+use Prim.Native.Nat.{ℕ, zero, suc, _+_, _-_, _≤_, _<_}
 use native.Mathlib.Omega.{arith}
-use lib.ListN.{length, take, drop, getD}
-use Rattle.rules.specs.Tests.{_&_, _≤?_, _=?_, all}
+use lib.ListN.{length, take, getD}
+use Rattle.rules.specs.Tests.{_&_, _≤?_, _=?_}
 use Rattle.rules.specs.Characters.{isPrintable}
-use Rattle.rules.specs.Items.{Value, Item, width, valueOf, fits, good, spot}
-use Rattle.rules.specs.Fields.{Field, Expect, anything, Verdict, ok, fault, _⨾_, check, isOk, Check, run, Entry, columnsOf, read, given, entriesOf, agrees, judgeEach, judge, covers}
-use Rattle.rules.specs.Records.{Meaning, Edition, sequence, bytes, codeAt, knownCode, entries, numbered, judgeLine, readLine, told, ofKind, judgeGiven}
+use Rattle.rules.specs.Items.{Value, width, fits, good, spot}
+use Rattle.rules.specs.Fields.{Field, Expect, anything, Verdict, ok, fault, _⨾_, check, Check, run, Entry, columnsOf, read, given, entriesOf, agrees, judgeEach, judge, covers}
+use Rattle.rules.specs.Records.{Meaning, Edition, sequence, bytes, codeAt, entries, numbered, judgeLine, readLine, told, ofKind, judgeGiven}
 use Rattle.rules.specs.Faults.{Faults, _∪_, Fails, Some, ByteFaults, FieldFaults, CheckFaults, stage, Before, First, LineFaults, ReadFaults, GivenFaults}
-use Rattle.rules.proofs.Truth.{both, and, to≤, of≤, to≡, of≡, cases, either, not-both, below-or-equal}
+use Rattle.rules.proofs.Truth.{both, and, to≤, of≤, to≡, either, not-both, below-or-equal}
 use Rattle.rules.proofs.Lawful.{spot-inside}
 use Rattle.rules.proofs.FieldLaws.{check-ok}
 use Rattle.rules.proofs.RecordLaws.{Sound}
@@ -278,7 +278,7 @@ module _ {S : Type 0} (E : Edition S) where
   tail-stage e l n c (inl x) = at-9 n (x .1)
   tail-stage e l n c (inr x) = each-stage e (entries E l) (entries E l) n c x
 
-  first-tail : Sound E → (e : Expect) (l : List ℕ) → knownCode E (codeAt l) ≡ true
+  first-tail : Sound E → (e : Expect) (l : List ℕ) → E .known (codeAt l) ≡ true
       → First (Fails (good sequence (take 6 l)) 9 (1 + spot sequence (take 6 l)) ∪ Some (FieldFaults e (entries E l)) (entries E l)) (numbered E l ⨾ judge e (entries E l))
   unfolding numbered
   first-tail sound e l known =
@@ -292,13 +292,13 @@ module _ {S : Type 0} (E : Edition S) where
   unfolding LineFaults judgeLine
   first-line sound s l =
       let e = E .expects s (codeAt l) in
-      let known = Fails (knownCode E (codeAt l)) 6 7 in
+      let known = Fails (E .known (codeAt l)) 6 7 in
       let allowed = Fails (E .allowed s (codeAt l)) 7 7 in
       let tail : Faults = Fails (good sequence (take 6 l)) 9 (1 + spot sequence (take 6 l)) ∪ Some (FieldFaults e (entries E l)) (entries E l) in
       let from-7 : (n c : ℕ) → (allowed ∪ tail) n c → 3 ≤ stage n = late 3 allowed tail (λ n c x. omega (arith, at-7 n (x .1))) (λ n c x. omega (arith, tail-stage e l n c x)) in
       let from-6 : (n c : ℕ) → (known ∪ allowed ∪ tail) n c → 2 ≤ stage n = late 2 known (allowed ∪ tail) (λ n c x. omega (arith, at-6 n (x .1))) (λ n c x. omega (arith, from-7 n c x)) in
       first-then (ByteFaults l) (known ∪ allowed ∪ tail) (bytes 80 1 l) _ (line-bytes l) (λ _.
-      first-then known (allowed ∪ tail) (check (knownCode E (codeAt l)) 6 7) _ (first-check _ 6 7) (λ k.
+      first-then known (allowed ∪ tail) (check (E .known (codeAt l)) 6 7) _ (first-check _ 6 7) (λ k.
       first-then allowed tail (check (E .allowed s (codeAt l)) 7 7) _ (first-check _ 7 7)
       (λ _. first-tail sound e l (check-ok _ 6 7 k))
       (λ n c n′ c′ x y. by-stage n c n′ c′ (omega (arith, at-7 n (x .1), tail-stage e l n′ c′ y))))
@@ -316,17 +316,17 @@ module _ {S : Type 0} (E : Edition S) where
   pub first-read : Sound E → (l : List ℕ) → First (ReadFaults E l) (readLine E l)
   unfolding ReadFaults readLine
   first-read sound l =
-      let known = Fails (knownCode E (codeAt l)) 6 7 in
+      let known = Fails (E .known (codeAt l)) 6 7 in
       let tail : Faults = Fails (good sequence (take 6 l)) 9 (1 + spot sequence (take 6 l)) ∪ Some (FieldFaults anything (entries E l)) (entries E l) in
       let from-6 : (n c : ℕ) → (known ∪ tail) n c → 2 ≤ stage n = late 2 known tail (λ n c x. omega (arith, at-6 n (x .1))) (λ n c x. omega (arith, tail-stage anything l n c x)) in
       first-then (ByteFaults l) (known ∪ tail) (bytes 80 1 l) _ (line-bytes l) (λ _.
-      first-then known tail (check (knownCode E (codeAt l)) 6 7) _ (first-check _ 6 7)
+      first-then known tail (check (E .known (codeAt l)) 6 7) _ (first-check _ 6 7)
       (λ k. first-tail sound anything l (check-ok _ 6 7 k))
       (λ n c n′ c′ x y. by-stage n c n′ c′ (omega (arith, at-6 n (x .1), tail-stage anything l n′ c′ y))))
       (λ n c n′ c′ x y. by-stage n c n′ c′ (omega (arith, line-bytes-stage l n c x, from-6 n′ c′ y)))
 
   -- ---- values that are to be written
-  kind-known : (k : ℕ) (m : Meaning) → ofKind E k m ≡ true → knownCode E (m .code) ≡ true
+  kind-known : (k : ℕ) (m : Meaning) → ofKind E k m ≡ true → E .known (m .code) ≡ true
   unfolding ofKind
   kind-known k m h = both (both h .0) .0
 

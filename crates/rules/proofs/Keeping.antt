@@ -29,10 +29,10 @@ module _ {S : Type 0} (E : Edition S) where
   passed-take s (l ∷ ls) zero h = refl
   passed-take s (l ∷ ls) (suc i) h = passed-take (E .next s (meaning E l)) ls i (omega arith)
 
-pub before-next : (f : List ℕ) (i : ℕ) → i < begun f → before chapter4 f (suc i) ≡ after (before chapter4 f i) (recordAt f i)
+pub before-next : (f : List ℕ) (i : ℕ) → i < begun f → before chapter4 f (suc i) ≡ after order (before chapter4 f i) (recordAt f i)
 unfolding before recordAt
 before-next f i h =
-    passed-take chapter4 atStart (lines f) i (rw (records f) h) ∙ ap (λ l. after (passed chapter4 atStart (map (meaning chapter4) (take i (lines f)))) (meaning chapter4 l)) (line-at f i h)
+    passed-take chapter4 atStart (lines f) i (rw (records f) h) ∙ ap (λ l. after order (passed chapter4 atStart (map (meaning chapter4) (take i (lines f)))) (meaning chapter4 l)) (line-at f i h)
 
 pub before-first : (f : List ℕ) → before chapter4 f 0 ≡ atStart
 unfolding before passed
@@ -42,7 +42,7 @@ start-place : (f : List ℕ) → before chapter4 f 0 .place ≡ nothing
 unfolding before passed atStart
 start-place f = refl
 
-next-place : (f : List ℕ) (i : ℕ) → i < begun f → before chapter4 f (suc i) .place ≡ goto (before chapter4 f i .place) (kindAt f i)
+next-place : (f : List ℕ) (i : ℕ) → i < begun f → before chapter4 f (suc i) .place ≡ goto order (before chapter4 f i .place) (kindAt f i)
 unfolding after recordAt meaning kindAt
 next-place f i h = ap (λ s. s .place) (before-next f i h)
 
@@ -85,14 +85,14 @@ module _ (f : List ℕ) (k h : ℕ) where
 
   -- a number that each record of kind k sets, each of kind h clears, and no other touches
   module _ (keep : Past → ℕ) (zero-first : keep atStart ≡ 0)
-      (sets : (s : Past) (m : Meaning) → isA k m ≡ true → keep (after s m) ≡ numberAt 11 m)
-      (clears : (s : Past) (m : Meaning) → isA k m ≡ false → isA h m ≡ true → keep (after s m) ≡ 0)
-      (leaves : (s : Past) (m : Meaning) → isA k m ≡ false → isA h m ≡ false → keep (after s m) ≡ keep s) where
+      (sets : (s : Past) (m : Meaning) → isA k m ≡ true → keep (after order s m) ≡ numberAt 11 m)
+      (clears : (s : Past) (m : Meaning) → isA k m ≡ false → isA h m ≡ true → keep (after order s m) ≡ 0)
+      (leaves : (s : Past) (m : Meaning) → isA k m ≡ false → isA h m ≡ false → keep (after order s m) ≡ keep s) where
     kept : (i : ℕ) → i ≤ begun f → Kept (keep (before chapter4 f i)) i
     unfolding Kept
     kept zero l = inl (ap keep (before-first f) ∙ zero-first, λ j n. omega (arith, n .before))
     kept (suc i) l =
-        let e : keep (before chapter4 f (suc i)) ≡ keep (after (before chapter4 f i) (recordAt f i)) = ap keep (before-next f i l) in
+        let e : keep (before chapter4 f (suc i)) ≡ keep (after order (before chapter4 f i) (recordAt f i)) = ap keep (before-next f i l) in
         cases (kindAt f i =? k)
         (λ a. inr (i, this i (to≡ a), e ∙ sets _ _ (its-kind f i k ∙ a)))
         (λ a. cases (kindAt f i =? h)
@@ -121,14 +121,14 @@ module _ (f : List ℕ) (k h : ℕ) where
 
 -- where each record of kind k is above the number that was kept, none before is above the one that is kept
 module _ (f : List ℕ) (k : ℕ) (keep : Past → ℕ)
-    (sets : (s : Past) (m : Meaning) → isA k m ≡ true → keep (after s m) ≡ numberAt 11 m)
-    (stays : (s : Past) (m : Meaning) → isA k m ≡ false → keep (after s m) ≡ keep s)
+    (sets : (s : Past) (m : Meaning) → isA k m ≡ true → keep (after order s m) ≡ numberAt 11 m)
+    (stays : (s : Past) (m : Meaning) → isA k m ≡ false → keep (after order s m) ≡ keep s)
     (n : ℕ) (many : n ≤ begun f)
     (rise : (x : ℕ) → x < n → kindAt f x ≡ k → keep (before chapter4 f x) + 1 ≤ numberAt 11 (recordAt f x)) where
   top : (i : ℕ) → i ≤ n → (j : ℕ) → j < i → kindAt f j ≡ k → numberAt 11 (recordAt f j) ≤ keep (before chapter4 f i)
   top zero l j b e = absurd (omega arith)
   top (suc i) l j b e =
-      let q : keep (before chapter4 f (suc i)) ≡ keep (after (before chapter4 f i) (recordAt f i)) = ap keep (before-next f i (omega arith)) in
+      let q : keep (before chapter4 f (suc i)) ≡ keep (after order (before chapter4 f i) (recordAt f i)) = ap keep (before-next f i (omega arith)) in
       cases (kindAt f i =? k)
       (λ a. let r : keep (before chapter4 f (suc i)) ≡ numberAt 11 (recordAt f i) = q ∙ sets _ _ (its-kind f i k ∙ a) in
       either (λ y. omega (arith, r, top i (omega arith) j y e, rise i l (to≡ a))) (λ y. omega (arith, r, ap (λ z. numberAt 11 (recordAt f z)) y)) (below-or-equal j i (omega arith)))
@@ -148,19 +148,19 @@ impossible : {A : Type 0} (k : ℕ) (m : Meaning) → isA k m ≡ false → isA 
 impossible k m a b = absurd (false≢true (sym a ∙ b))
 
 module _ (s : Past) (m : Meaning) where
-  sets-70 : isA *70* m ≡ true → after s m .instrument ≡ numberAt 11 m
+  sets-70 : isA *70* m ≡ true → after order s m .instrument ≡ numberAt 11 m
   unfolding after
   sets-70 e = one-kind *70* m (s .instrument) e
 
-  stays-70 : isA *70* m ≡ false → after s m .instrument ≡ s .instrument
+  stays-70 : isA *70* m ≡ false → after order s m .instrument ≡ s .instrument
   unfolding after
   stays-70 e = other-kind *70* m (s .instrument) e
 
-  sets-72 : isA *72* m ≡ true → after s m .antenna ≡ numberAt 11 m
+  sets-72 : isA *72* m ≡ true → after order s m .antenna ≡ numberAt 11 m
   unfolding after
   sets-72 e = one-kind *72* m (s .antenna) e
 
-  stays-72 : isA *72* m ≡ false → after s m .antenna ≡ s .antenna
+  stays-72 : isA *72* m ≡ false → after order s m .antenna ≡ s .antenna
   unfolding after
   stays-72 e = other-kind *72* m (s .antenna) e
 
@@ -211,7 +211,7 @@ places-small : all (λ row. all (λ p. p ≤? 16) row) order ≡ true
 unfolding all order _≤?_ _&_
 places-small = refl
 
-goto-small : (p k : ℕ) → goto p k < 17
+goto-small : (p k : ℕ) → goto order p k < 17
 unfolding goto
 goto-small p k =
     let row : all (λ q. q ≤? 16) (getD order p []) ≡ true = all-getD (λ r. all (λ q. q ≤? 16) r) order [] p places-small (unfold all in refl) in
@@ -250,9 +250,9 @@ pub record Placed (f : List ℕ) (i p : ℕ) : Type 0 where
   pub group : after25 ≤ p → p ≤ third27 → (j : ℕ) × Group f j i × (p ≡ after25 + between f *27* j i)
 
 -- what may come makes the place that the paper names
-made : (p k : ℕ) → p < 17 → k ≤ 13 → 1 ≤ goto p k → (anyOf (getD mayCome p []) k ≡ true) × (goto p k ≡ placeAfter p k)
+made : (p k : ℕ) → p < 17 → k ≤ 13 → 1 ≤ goto order p k → (anyOf (getD mayCome p []) k ≡ true) × (goto order p k ≡ placeAfter p k)
 made p k h j l =
-    let e : goto p k ≡ ruled p k = order-is-the-table p k h (omega arith) in
+    let e : goto order p k ≡ ruled p k = order-is-the-table p k h (omega arith) in
     cases (anyOf (getD mayCome p []) k) (λ t. (t, e ∙ (unfold ruled in rw t))) (λ t. absurd (let z : ruled p k ≡ 0 = unfold ruled in rw t in omega arith))
 
 nth-27 : (n : ℕ) → n < 3 → 1 + (after25 + n) ≡ getD (first27 ∷ second27 ∷ third27 ∷ []) n 0
@@ -270,16 +270,16 @@ unfolding Place
 at-start f zero p e x = x
 at-start f (suc i) p e x = absurd (omega arith)
 
-module _ (f : List ℕ) (i p : ℕ) (P : Placed f i p) (known : kindAt f i ≤ 13) (comes : 1 ≤ goto p (kindAt f i)) where
-  its : (anyOf (getD mayCome p []) (kindAt f i) ≡ true) × (goto p (kindAt f i) ≡ placeAfter p (kindAt f i))
+module _ (f : List ℕ) (i p : ℕ) (P : Placed f i p) (known : kindAt f i ≤ 13) (comes : 1 ≤ goto order p (kindAt f i)) where
+  its : (anyOf (getD mayCome p []) (kindAt f i) ≡ true) × (goto order p (kindAt f i) ≡ placeAfter p (kindAt f i))
   its = made p (kindAt f i) (P .small) known comes
 
-  at-27 : kindAt f i ≡ *27* → (within after25 second27 p ≡ true) × (goto p (kindAt f i) ≡ p + 1)
+  at-27 : kindAt f i ≡ *27* → (within after25 second27 p ≡ true) × (goto order p (kindAt f i) ≡ p + 1)
   at-27 e =
       let t = both (when-asked _ _ (tried _ 17 p follows-27 (P .small)) (subst (λ k. anyOf (getD mayCome p []) k ≡ true) e (its .0))) in
       (t .0, its .1 ∙ ap (placeAfter p) e ∙ to≡ (t .1))
 
-  after-27 : kindAt f i ≡ *27* → Placed f (suc i) (goto p (kindAt f i))
+  after-27 : kindAt f i ≡ *27* → Placed f (suc i) (goto order p (kindAt f i))
   after-27 e =
       let t = at-27 e in
       let r = to-within (t .0) in
@@ -298,9 +298,9 @@ module _ (f : List ℕ) (i p : ℕ) (P : Placed f i p) (known : kindAt f i ≤ 1
         group = λ _ _. (g .0, far, t .1 ∙ omega (arith, g .2, one-between f *27* (g .0) i (g .1 .before) e));
       }
 
-  after-job : kindAt f i ≡ *AA* → Placed f (suc i) (goto p (kindAt f i))
+  after-job : kindAt f i ≡ *AA* → Placed f (suc i) (goto order p (kindAt f i))
   after-job e =
-      let q : goto p (kindAt f i) ≡ cond (p =? nothing) firstJob lastJob = its .1 ∙ ap (placeAfter p) e ∙ (unfold placeAfter placeNamed in refl) in
+      let q : goto order p (kindAt f i) ≡ cond (p =? nothing) firstJob lastJob = its .1 ∙ ap (placeAfter p) e ∙ (unfold placeAfter placeNamed in refl) in
       record {
         small = goto-small p (kindAt f i);
         started = λ _. comes;
@@ -314,7 +314,7 @@ module _ (f : List ℕ) (i p : ℕ) (P : Placed f i p) (known : kindAt f i ≤ 1
       later : 1 ≤ p → cond (p =? nothing) firstJob lastJob ≡ lastJob
       later h = rw (of≢ {m = p} {n = nothing} (λ z. omega arith))
 
-      place-job : goto p (kindAt f i) ≡ cond (p =? nothing) firstJob lastJob → Place f (suc i) (goto p (kindAt f i))
+      place-job : goto order p (kindAt f i) ≡ cond (p =? nothing) firstJob lastJob → Place f (suc i) (goto order p (kindAt f i))
       place-job q = unfold Place in
           cases (1 ≤? i)
           (λ y. inr (inl (e, to≤ y, q ∙ later (P .started (to≤ y)))))
@@ -325,10 +325,10 @@ module _ (f : List ℕ) (i p : ℕ) (P : Placed f i p) (known : kindAt f i ≤ 1
       apart false h k = omega arith
 
   module _ (job : kindAt f i ≡ *AA* → ⊥) (measured : kindAt f i ≡ *27* → ⊥) where
-    named : goto p (kindAt f i) ≡ placeNamed 0 0 (kindAt f i)
+    named : goto order p (kindAt f i) ≡ placeNamed 0 0 (kindAt f i)
     named = its .1 ∙ (unfold placeAfter in named-other _ _ (kindAt f i) job measured)
 
-    after-other : Placed f (suc i) (goto p (kindAt f i))
+    after-other : Placed f (suc i) (goto order p (kindAt f i))
     after-other = record {
       small = goto-small p (kindAt f i);
       started = λ _. comes;
@@ -339,13 +339,13 @@ module _ (f : List ℕ) (i p : ℕ) (P : Placed f i p) (known : kindAt f i ≤ 1
         before-27 : placeNamed 0 0 *26* ≡ after25
         before-27 = unfold placeNamed in refl
 
-        ends : kindAt f i ≡ *25* → goto p (kindAt f i) ≡ after25
+        ends : kindAt f i ≡ *25* → goto order p (kindAt f i) ≡ after25
         ends e = named ∙ (unfold placeNamed in ap (placeNamed 0 0) e)
 
-        opening : kindAt f i ≡ *25* → (j : ℕ) × Group f j (suc i) × (goto p (kindAt f i) ≡ after25 + between f *27* j (suc i))
+        opening : kindAt f i ≡ *25* → (j : ℕ) × Group f j (suc i) × (goto order p (kindAt f i) ≡ after25 + between f *27* j (suc i))
         opening e = (i, this f *25* *70* i e, ends e ∙ omega (arith, none-between f *27* i (suc i) (omega arith)))
 
-        going-on : kindAt f i ≡ *26* → (j : ℕ) × Group f j (suc i) × (goto p (kindAt f i) ≡ after25 + between f *27* j (suc i))
+        going-on : kindAt f i ≡ *26* → (j : ℕ) × Group f j (suc i) × (goto order p (kindAt f i) ≡ after25 + between f *27* j (suc i))
         going-on e =
             let here : p ≡ after25 = to≡ (when-asked _ _ (tried _ 17 p follows-26 (P .small)) (subst (λ k. anyOf (getD mayCome p []) k ≡ true) e (its .0))) in
             let g = P .group (omega (arith, here)) (omega (arith, here)) in (
@@ -354,10 +354,10 @@ module _ (f : List ℕ) (i p : ℕ) (P : Placed f i p) (known : kindAt f i ≤ 1
               named ∙ ap (placeNamed 0 0) e ∙ before-27 ∙ omega (arith, here, g .2, same-between f *27* (g .0) i measured),
             )
 
-        in-group : within *25* *26* (kindAt f i) ≡ true → (j : ℕ) × Group f j (suc i) × (goto p (kindAt f i) ≡ after25 + between f *27* j (suc i))
+        in-group : within *25* *26* (kindAt f i) ≡ true → (j : ℕ) × Group f j (suc i) × (goto order p (kindAt f i) ≡ after25 + between f *27* j (suc i))
         in-group h = either (λ l. opening (omega (arith, l, to-within h .0))) going-on (below-or-equal (kindAt f i) *26* (to-within h .1))
 
-  pub place-next : Placed f (suc i) (goto p (kindAt f i))
+  pub place-next : Placed f (suc i) (goto order p (kindAt f i))
   place-next =
       cases (kindAt f i =? *AA*) (λ a. after-job (to≡ a)) (λ a. cases (kindAt f i =? *27*) (λ b. after-27 (to≡ b)) (λ b. after-other (no≡ a) (no≡ b)))
 
@@ -383,13 +383,13 @@ place-one f (suc i) p q (inr (inr (inr x))) (inr (inl y)) = absurd (x .0 (y .0))
 place-one f (suc i) p q (inr (inr (inr x))) (inr (inr (inl y))) = absurd (x .1 (y .its-kind))
 place-one f (suc i) p q (inr (inr (inr x))) (inr (inr (inr y))) = x .2 ∙ sym (y .2)
 
-same-job : (s : Past) (m : Meaning) → s .place =? nothing ≡ false → after s m .job ≡ s .job
+same-job : (s : Past) (m : Meaning) → s .place =? nothing ≡ false → after order s m .job ≡ s .job
 unfolding after
 same-job s m h = rw h
 
 -- ---- of records that each may come where they stand
 module _ (f : List ℕ) (n : ℕ) (many : n ≤ begun f) (known : (x : ℕ) → x < n → kindAt f x ≤ 13) (turn : (x : ℕ) → x < n → permitted chapter4 (before chapter4 f x) (recordAt f x) ≡ true) where
-  comes-here : (i : ℕ) → i < n → 1 ≤ goto (before chapter4 f i .place) (kindAt f i)
+  comes-here : (i : ℕ) → i < n → 1 ≤ goto order (before chapter4 f i .place) (kindAt f i)
   unfolding permitted mayStand recordAt meaning kindAt
   comes-here i h = to≤ (both (both (turn i h) .0) .0)
 
@@ -403,7 +403,7 @@ module _ (f : List ℕ) (n : ℕ) (many : n ≤ begun f) (known : (x : ℕ) → 
   -- the first record's job code
   pub job-is : (i : ℕ) → 1 ≤ i → i ≤ n → before chapter4 f i .job ≡ codeAt (lineAt f 0)
   job-is zero p h = absurd (omega arith)
-  job-is (suc zero) p h = ap (λ s. s .job) (before-next f 0 (omega arith) ∙ ap (λ s. after s (recordAt f 0)) (before-first f)) ∙ (unfold after atStart recordAt meaning _=?_ in refl)
+  job-is (suc zero) p h = ap (λ s. s .job) (before-next f 0 (omega arith) ∙ ap (λ s. after order s (recordAt f 0)) (before-first f)) ∙ (unfold after atStart recordAt meaning _=?_ in refl)
   job-is (suc (suc i)) p h =
       let off : before chapter4 f (suc i) .place =? nothing ≡ false = of≢ (λ z. omega (arith, z, placed (suc i) (omega arith) .started (omega arith))) in
       ap (λ s. s .job) (before-next f (suc i) (omega arith)) ∙ same-job _ _ off ∙ job-is (suc i) (omega arith) (omega arith)

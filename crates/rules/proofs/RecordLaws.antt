@@ -1,26 +1,25 @@
 -- One record: its judges are tests of the bytes and of the meaning; what is written reads back, and what reads can be written.
-use mathlib.Core.Path.{_≡_, refl, sym, _∙_, ap, ap₂, subst}
-use mathlib.Core.Logic.{_↔_}
-use mathlib.Core.Bool.{Bool, true, false, cond, false≢true}
-use mathlib.Core.List.{List, [], _∷_, _++_, append-assoc, map}
-use Prim.Native.Nat.{ℕ, zero, suc, _+_, _-_, _*_, _^_, _≤_, _<_}
+use mathlib.Core.Path.{_≡_, refl, sym, _∙_, ap}
+use mathlib.Core.Bool.{Bool, true, false≢true}
+use mathlib.Core.List.{List, [], _∷_, _++_, append-assoc}
+use Prim.Native.Nat.{ℕ, zero, suc, _+_, _-_, _*_, _≤_, _<_}
 use native.Mathlib.Omega.{arith}
-use lib.ListN.{length, length-append, take, drop}
+use lib.ListN.{length, length-append, take}
 use lib.Seq.{take-at, drop-at}
 use lib.IntN.{pos}
-use Rattle.rules.specs.Tests.{all, within, _&_, _≤?_, _=?_}
+use Rattle.rules.specs.Tests.{all, _&_, _=?_}
 use Rattle.rules.specs.Characters.{isPrintable}
-use Rattle.rules.specs.Items.{Value, num, Item, number, width, valueOf, fits, render, good, spot, onNumber}
-use Rattle.rules.specs.Fields.{Field, Expect, anything, Verdict, ok, fault, _⨾_, check, isOk, Check, Entry, read, entriesOf, values, judge, formed, agreeing, renders, covers}
-use Rattle.rules.specs.Records.{Meaning, Edition, sequence, bytes, codeAt, knownCode, entries, numbered, judgeLine, readLine, meaning, told, ofKind, judgeGiven, lineOf, style, formedLine, permitted, meant}
-use Rattle.rules.proofs.Truth.{both, and, to≤, of≤, to≡, of≡, of-within, all-append, &-sort, true-and}
+use Rattle.rules.specs.Items.{Value, num, width, valueOf, fits, render, good, onNumber}
+use Rattle.rules.specs.Fields.{Expect, anything, _⨾_, check, isOk, values, formed, agreeing, renders, covers}
+use Rattle.rules.specs.Records.{Meaning, Edition, sequence, bytes, codeAt, entries, numbered, judgeLine, readLine, meaning, told, ofKind, judgeGiven, lineOf, style, formedLine, permitted, meant}
+use Rattle.rules.proofs.Truth.{both, and, of≤, to≡, of≡, of-within, all-append, &-sort}
 use Rattle.rules.proofs.Lawful.{lawful, good-fits, render-good}
 use Rattle.rules.proofs.FieldLaws.{isOk-⨾, isOk-check, judge-splits, agreeing-alone, formed-told, agreeing-told, length-values, fitting, renders-length, renders-printable, renders-formed, renders-values}
 
 -- ---- what the laws ask of an edition
 pub record Sound {S : Type 0} (E : Edition S) : Type 0 where
-  pub four : (c : List ℕ) → knownCode E c ≡ true → (length c ≡ 4) × (all isPrintable c ≡ true)
-  pub filled : (c : List ℕ) → knownCode E c ≡ true → covers 11 (E .layout c) ≡ true
+  pub four : (c : List ℕ) → E .known c ≡ true → (length c ≡ 4) × (all isPrintable c ≡ true)
+  pub filled : (c : List ℕ) → E .known c ≡ true → covers 11 (E .layout c) ≡ true
 
 -- ---- bytes
 pub bytes-fine : (c : ℕ) (xs : List ℕ) (n : ℕ) → length xs ≡ n → all isPrintable xs ≡ true → isOk (bytes n c (xs ++ 10 ∷ [])) ≡ true
@@ -87,7 +86,7 @@ module _ {S : Type 0} (E : Edition S) where
     front : List ℕ
     front = render sequence q ++ m .code
 
-    known : knownCode E (m .code) ≡ true
+    known : E .known (m .code) ≡ true
     unfolding meant
     known = both h .0
 

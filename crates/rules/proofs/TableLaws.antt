@@ -11,8 +11,8 @@ use lib.IntN.{pos, negsuc}
 use Rattle.rules.specs.Tests.{all, within, _&_, _≤?_, _=?_}
 use Rattle.rules.specs.Items.{Value, gap, missing, num, text, label, Item, blank, number, fits, onNumber}
 use Rattle.rules.specs.Fields.{Field, Entry, given, entriesOf, valueAt, numOf, isFormed, formed}
-use Rattle.rules.specs.Records.{Meaning, knownCode, told, meant}
-use Rattle.rules.specs.Kinds.{kindOf, *25*, *70*, *72*, *80*}
+use Rattle.rules.specs.Records.{Meaning, told, meant}
+use Rattle.rules.specs.Kinds.{kindOf, known, *25*, *70*, *72*, *80*}
 use Rattle.rules.specs.Layouts.{at, tied, station, instrument, antenna, occupation, receiver, aerial, point, kept, layouts, layout}
 use Rattle.rules.specs.References.{isA, numberAt, defines, definerFrom, definer, tabulate, wordAt, words, slotOf, mark, filled, tally, counts, sum}
 use Rattle.rules.specs.Chapter4.{chapter4}
@@ -267,7 +267,7 @@ count-one m ms (suc n) i h k =
 
 -- the counts of known records sum to the number of the records: none is passed over
 meant-known : (m : Meaning) → meant chapter4 m ≡ true → kindOf (m .code) ≤ 13
-unfolding meant knownCode
+unfolding meant known
 meant-known m h = to≤ (both h .0)
 
 pub counts-sum : (ms : List Meaning) → all (meant chapter4) ms ≡ true → sum (counts ms) ≡ length ms

@@ -5,9 +5,9 @@ use Prim.Native.Nat.{ℕ}
 use Rattle.rules.specs.Tests.{_&_, _≤?_, _=?_}
 use Rattle.rules.specs.Fields.{Expect, anything, same, above}
 use Rattle.rules.specs.Records.{Meaning, Edition}
-use Rattle.rules.specs.Kinds.{kindOf, *AA*, *25*, *27*, *70*, *72*, *80*, *86*}
+use Rattle.rules.specs.Kinds.{kindOf, known, *AA*, *25*, *27*, *70*, *72*, *80*, *86*}
 use Rattle.rules.specs.Layouts.{layout}
-use Rattle.rules.specs.Order.{nothing, lastJob, goto}
+use Rattle.rules.specs.Order.{nothing, lastJob, order, goto}
 use Rattle.rules.specs.References.{isA, numberAt, refChecks}
 
 -- what is kept of the records before
@@ -29,8 +29,8 @@ sameBytes (x ∷ xs) [] = false
 sameBytes (x ∷ xs) (y ∷ ys) = x =? y & sameBytes xs ys
 
 -- 7: the table lets the kind come; a job code that does not open the file is the first record's
-unfoldable pub mayStand : Past → List ℕ → Bool
-mayStand s c = 1 ≤? goto (s .place) (kindOf c) & cond (kindOf c =? *AA*) (cond (s .place =? nothing) true (sameBytes c (s .job))) true
+unfoldable pub mayStand : List (List ℕ) → Past → List ℕ → Bool
+mayStand rows s c = 1 ≤? goto rows (s .place) (kindOf c) & cond (kindOf c =? *AA*) (cond (s .place =? nothing) true (sameBytes c (s .job))) true
 
 -- 10 at column 11: a *27* has its group's station, an *86* the station of the *80* before it; *70* and *72* rise strictly
 unfoldable pub expectation : Past → List ℕ → Expect
@@ -45,9 +45,9 @@ unfoldable pub latest : ℕ → Meaning → ℕ → ℕ
 latest k m n = cond (isA k m) (numberAt 11 m) n
 
 -- a group is a *25* with what follows up to the next *25* or *70*
-unfoldable pub after : Past → Meaning → Past
-after s m = record {
-  place = goto (s .place) (kindOf (m .code));
+unfoldable pub after : List (List ℕ) → Past → Meaning → Past
+after rows s m = record {
+  place = goto rows (s .place) (kindOf (m .code));
   job = cond (s .place =? nothing) (m .code) (s .job);
   group = latest *25* m (cond (isA *70* m) 0 (s .group));
   point = latest *80* m (s .point);
@@ -55,14 +55,19 @@ after s m = record {
   antenna = latest *72* m (s .antenna);
 }
 
-abbrev pub chapter4 : Edition Past
-chapter4 = record {
+-- the edition by its rows of what may follow what and the place that a file ends at
+abbrev pub ordered : (rows : List (List ℕ)) (last : ℕ) → Edition Past
+ordered rows last = record {
+  known = known;
   kind = kindOf;
   layout = layout;
   start = atStart;
-  allowed = mayStand;
+  allowed = mayStand rows;
   expects = expectation;
-  next = after;
-  ends = λ s. s .place =? lastJob;
+  next = after rows;
+  ends = λ s. s .place =? last;
   refs = refChecks;
 }
+
+abbrev pub chapter4 : Edition Past
+chapter4 = ordered order lastJob

@@ -9,7 +9,7 @@ use Rattle.rules.specs.Tests.{_≤?_, _=?_}
 use Rattle.rules.specs.Characters.{isPrintable}
 use Rattle.rules.specs.Items.{Value, good, spot, fits}
 use Rattle.rules.specs.Fields.{Expect, anything, Entry, agrees, Check, Verdict, ok, fault}
-use Rattle.rules.specs.Records.{Meaning, Edition, sequence, codeAt, knownCode, entries, meaning, told, ofKind}
+use Rattle.rules.specs.Records.{Meaning, Edition, sequence, codeAt, entries, meaning, told, ofKind}
 use Rattle.rules.specs.Files.{Result, accept, refuse, lineAt, begun, lines, meanings, passed}
 
 -- the faults of one record: number and column; of a file: number, record and column
@@ -76,7 +76,7 @@ module _ {S : Type 0} (E : Edition S) where
   unfoldable pub LineFaults : S → List ℕ → Faults
   LineFaults s l =
       ByteFaults l
-      ∪ Fails (knownCode E (codeAt l)) 6 7
+      ∪ Fails (E .known (codeAt l)) 6 7
       ∪ Fails (E .allowed s (codeAt l)) 7 7
       ∪ Fails (good sequence (take 6 l)) 9 (1 + spot sequence (take 6 l))
       ∪ Some (FieldFaults (E .expects s (codeAt l)) (entries E l)) (entries E l)
@@ -85,7 +85,7 @@ module _ {S : Type 0} (E : Edition S) where
   unfoldable pub ReadFaults : List ℕ → Faults
   ReadFaults l =
       ByteFaults l
-      ∪ Fails (knownCode E (codeAt l)) 6 7
+      ∪ Fails (E .known (codeAt l)) 6 7
       ∪ Fails (good sequence (take 6 l)) 9 (1 + spot sequence (take 6 l))
       ∪ Some (FieldFaults anything (entries E l)) (entries E l)
 

@@ -3,7 +3,7 @@ use mathlib.Core.Bool.{Bool, true, false, cond}
 use mathlib.Core.List.{List, [], _∷_, _++_, map}
 use Prim.Native.Nat.{ℕ, zero, suc, _+_, _*_, _/_}
 use lib.ListN.{length, take, drop}
-use Rattle.rules.specs.Tests.{_&_, _≤?_, _=?_}
+use Rattle.rules.specs.Tests.{_&_, _≤?_}
 use Rattle.rules.specs.Fields.{Verdict, ok, fault, _⨾_, check, run}
 use Rattle.rules.specs.Records.{Meaning, Edition, judgeLine, meaning, style, formedLine, permitted}
 

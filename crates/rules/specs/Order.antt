@@ -1,5 +1,5 @@
 -- 01, "What may follow what".
-use mathlib.Core.Bool.{Bool, true, false, cond}
+use mathlib.Core.Bool.{cond}
 use mathlib.Core.List.{List, [], _∷_}
 use Prim.Native.Nat.{ℕ}
 use lib.ListN.{getD}
@@ -115,5 +115,6 @@ order =
     ∷ (0 ∷ 0 ∷ 0 ∷ 0 ∷ 0 ∷ 0 ∷ 0 ∷ 0 ∷ 0 ∷ 0 ∷ 0 ∷ 0 ∷ 0 ∷ 0 ∷ [])
     ∷ []
 
-unfoldable pub goto : ℕ → ℕ → ℕ
-goto place kind = getD (getD order place []) kind 0
+-- 01, "the walk looks up the next place": in any such rows
+unfoldable pub goto : List (List ℕ) → ℕ → ℕ → ℕ
+goto rows place kind = getD (getD rows place []) kind 0

@@ -1,13 +1,13 @@
 -- 01, "The line and the file": one record, judged, read, meant and written, for any edition of the format.
-use mathlib.Core.Bool.{Bool, true, false, cond}
+use mathlib.Core.Bool.{Bool, true}
 use mathlib.Core.List.{List, [], _∷_, _++_, map}
 use Prim.Native.Nat.{ℕ, zero, suc, _+_, _*_}
 use lib.ListN.{length, take, drop}
 use lib.IntN.{pos}
-use Rattle.rules.specs.Tests.{_&_, _≤?_, _=?_}
+use Rattle.rules.specs.Tests.{_&_, _=?_}
 use Rattle.rules.specs.Characters.{isPrintable}
-use Rattle.rules.specs.Items.{Value, num, Item, number, valueOf, fits, render, good, spot}
-use Rattle.rules.specs.Fields.{Field, Expect, anything, Verdict, ok, fault, _⨾_, check, isOk, Check, Entry, read, entriesOf, values, judge, formed, agreeing, renders}
+use Rattle.rules.specs.Items.{Value, num, Item, number, fits, render, good, spot}
+use Rattle.rules.specs.Fields.{Field, Expect, anything, Verdict, fault, _⨾_, check, isOk, Check, Entry, read, entriesOf, values, judge, formed, agreeing, renders}
 
 -- 01, "A record means its kind with every value from column 11 on"; the code tells the kind, and a job code is itself part of the meaning
 pub record Meaning : Type 0 where
@@ -16,7 +16,8 @@ pub record Meaning : Type 0 where
 
 -- what an edition of the format adds to the rules of lines and fields; S is what it keeps of the records before
 pub record Edition (S : Type 0) : Type 0 where
-  pub kind : List ℕ → ℕ  -- of columns 7-10; above 13 where they hold no known code
+  pub known : List ℕ → Bool  -- whether columns 7-10 hold a code of the edition
+  pub kind : List ℕ → ℕ  -- of a known code
   pub layout : List ℕ → List Field  -- columns 11-80 under a known code
   pub start : S
   pub allowed : S → List ℕ → Bool  -- whether a code may come here
@@ -41,9 +42,6 @@ unfoldable pub codeAt : List ℕ → List ℕ
 codeAt l = take 4 (drop 6 l)
 
 module _ {S : Type 0} (E : Edition S) where
-  unfoldable pub knownCode : List ℕ → Bool
-  knownCode c = E .kind c ≤? 13
-
   -- the fields from column 11 on
   unfoldable pub entries : List ℕ → List Entry
   entries l = map (read l) (E .layout (codeAt l))
@@ -54,12 +52,12 @@ module _ {S : Type 0} (E : Edition S) where
   -- 01, "Order": 3, 4 and 5; 6; 7; then the fields, columns 1-6 included
   unfoldable pub judgeLine : S → List ℕ → Verdict
   judgeLine s l =
-      bytes 80 1 l ⨾ check (knownCode (codeAt l)) 6 7 ⨾ check (E .allowed s (codeAt l)) 7 7
+      bytes 80 1 l ⨾ check (E .known (codeAt l)) 6 7 ⨾ check (E .allowed s (codeAt l)) 7 7
       ⨾ numbered l ⨾ judge (E .expects s (codeAt l)) (entries l)
 
   -- 01, "Read judges a record by itself": 3 to 6, then its fields
   unfoldable pub readLine : List ℕ → Verdict
-  readLine l = bytes 80 1 l ⨾ check (knownCode (codeAt l)) 6 7 ⨾ numbered l ⨾ judge anything (entries l)
+  readLine l = bytes 80 1 l ⨾ check (E .known (codeAt l)) 6 7 ⨾ numbered l ⨾ judge anything (entries l)
 
   -- ---- meaning
   unfoldable pub meaning : List ℕ → Meaning
@@ -72,7 +70,7 @@ module _ {S : Type 0} (E : Edition S) where
   -- ---- writing: 01, "Write answers 1, 9 or 10 with record 0, 1 first and then by field from the left"
   -- of the kind asked for, with a value for each field
   unfoldable pub ofKind : ℕ → Meaning → Bool
-  ofKind k m = knownCode (m .code) & E .kind (m .code) =? k & length (m .values) =? length (E .layout (m .code))
+  ofKind k m = E .known (m .code) & E .kind (m .code) =? k & length (m .values) =? length (E .layout (m .code))
 
   unfoldable pub judgeGiven : ℕ → Value → Meaning → Verdict
   judgeGiven k q m = check (fits sequence q) 9 1 ⨾ check (ofKind k m) 9 7 ⨾ judge anything (told m)
@@ -87,11 +85,11 @@ module _ {S : Type 0} (E : Edition S) where
 
   -- ---- the judges as tests of the bytes and of the meaning
   unfoldable pub formedLine : List ℕ → Bool
-  formedLine l = isOk (bytes 80 1 l) & knownCode (codeAt l) & good sequence (take 6 l) & formed (entries l)
+  formedLine l = isOk (bytes 80 1 l) & E .known (codeAt l) & good sequence (take 6 l) & formed (entries l)
 
   unfoldable pub permitted : S → Meaning → Bool
   permitted s m = E .allowed s (m .code) & agreeing (E .expects s (m .code)) (told m)
 
   -- a meaning that some line has
   unfoldable pub meant : Meaning → Bool
-  meant m = knownCode (m .code) & (length (m .values) =? length (E .layout (m .code)) & formed (told m))
+  meant m = E .known (m .code) & (length (m .values) =? length (E .layout (m .code)) & formed (told m))

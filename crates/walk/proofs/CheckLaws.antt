@@ -1,18 +1,16 @@
 -- The whole check: what the walk and the references leave together is what the rules say.
-use mathlib.Core.Path.{_≡_, refl, sym, _∙_, ap, ap₂, subst}
-use mathlib.Core.Bool.{Bool, true, false, cond, false≢true}
-use mathlib.Core.List.{List, [], _∷_, _++_}
-use Prim.Native.Nat.{ℕ, zero, suc, _+_, _-_, _≤_, _<_}
-use native.Mathlib.Omega.{arith}
-use lib.ListN.{length, take, drop, replicate}
-use Rattle.rules.specs.Tests.{_&_, _≤?_, _=?_}
+use mathlib.Core.Path.{_≡_, refl, sym, _∙_, ap}
+use mathlib.Core.Bool.{true, false, false≢true}
+use mathlib.Core.List.{List, _++_}
+use Prim.Native.Nat.{ℕ, _+_, _-_, _≤_, _<_}
+use lib.ListN.{length, drop}
+use Rattle.rules.specs.Tests.{_=?_}
 use Rattle.rules.specs.Records.{Meaning}
 use Rattle.rules.specs.Files.{Result, accept, refuse, isAccept, andThen, lines, meanings, walk, refer, verdict, formedLines}
-use Rattle.rules.specs.References.{words, filled}
+use Rattle.rules.specs.References.{words}
 use Rattle.rules.specs.Calls.{outcome, bigTable, answer, tableLeft, checkAnswer, checkTable}
-use Rattle.rules.specs.Order.{order}
 use Rattle.rules.specs.Chapter4.{atStart, chapter4}
-use Rattle.rules.proofs.Truth.{both, of≤, of>, of≡, of≢, cases}
+use Rattle.rules.proofs.Truth.{both, of≤, of>, of≡, of≢}
 use Rattle.rules.proofs.FileLaws.{walk-splits, formed-meant}
 use Rattle.rules.proofs.TableLaws.{filled-is-words}
 use Rattle.rules.proofs.Numbered.{zero-walks, zero-accepts}
@@ -53,7 +51,7 @@ zero-verdict : (f : List ℕ) (ms : List Meaning) → answer (verdict chapter4 f
 zero-verdict f ms e = unfold outcome in zero-accepts true f ms e
 
 -- ---- what the walk accepted can be referred
-module _ (f t : List ℕ) (v : Checked) (w : Walked f v t) where
+module _ (f t : List ℕ) (v : Checked) (w : Walked chapter4 f v t) where
   through : v .fault .number ≡ 0 → isAccept (walk chapter4 atStart 1 (lines f)) ≡ true
   through e = zero-walks f (meanings chapter4 f) (unfold checkedOf in (rw (w .first) at e))
 

@@ -1,23 +1,19 @@
 -- What is kept of the records before: one law for each way through the functions, and that it is what the rules keep.
-use mathlib.Core.Path.{_≡_, refl, sym, _∙_, ap, ap₂, subst}
-use mathlib.Core.Bool.{Bool, true, false, cond, not, _||_, false≢true}
+use mathlib.Core.Path.{_≡_, refl, sym, _∙_, ap}
+use mathlib.Core.Bool.{Bool, true, false, cond, not, _||_}
 use mathlib.Core.List.{List, [], _∷_}
-use Prim.Native.Nat.{ℕ, zero, suc, _+_, _≤_, _<_}
+use Prim.Native.Nat.{ℕ, _≤_}
 use native.Mathlib.Omega.{arith}
 use lib.Dec.{eqb}
-use lib.ListN.{length, take, drop, getD}
-use lib.Seq.{getD-take, getD-drop}
+use lib.ListN.{getD}
 use Rattle.rules.specs.Tests.{_&_, _≤?_, _=?_}
-use Rattle.rules.specs.Fields.{Expect, anything, same, above}
-use Rattle.rules.specs.Records.{Meaning, codeAt, meaning}
-use Rattle.rules.specs.Kinds.{starred, kindOf, *AA*, *25*, *27*, *70*, *72*, *80*, *86*}
+use Rattle.rules.specs.Records.{codeAt}
+use Rattle.rules.specs.Kinds.{starred, kindOf, *AA*, *27*, *70*, *72*, *86*}
 use Rattle.rules.specs.Order.{nothing, goto}
-use Rattle.rules.specs.References.{isA, numberAt}
-use Rattle.rules.specs.Chapter4.{Past, sameBytes, mayStand, expectation, latest, after, chapter4}
-use Rattle.rules.proofs.Truth.{both, and, to≤, of≤, to≡, of≡, no≡, of≢, cases, true-and}
+use Rattle.rules.specs.Chapter4.{sameBytes, mayStand, expectation}
+use Rattle.rules.proofs.Truth.{both, to≡, of≡, of≢, cases}
 use Rattle.columns.specs.Types.{four, fourOf}
 use Rattle.columns.proofs.LabelLaws.{four-back}
-use Rattle.kinds.specs.declared.Expect as code
 use Rattle.kinds.specs.declared.Expect.the-variants as X
 use Rattle.kinds.specs.Values.{expectOf}
 use Rattle.walk.specs.declared.kept.Kept.{Kept}
@@ -105,13 +101,13 @@ module _ (l : List ℕ) (known : kindOf (codeAt l) ≤ 13) where
       ∙ (unfold fourOf four in rw (to≡ (both (both star .0) .1), at-column l 1 (omega arith), at-column l 2 (omega arith), to≡ (both star .1)))
 
   -- ---- 7: whether the code may stand here
-  module _ (s : Kept) (k : ℕ) (e : k ≡ kindOf (codeAt l)) where
-    pub stands : mayStand (pastOf s) (codeAt l) ≡ 1 ≤? goto (s .place) k & not (foreign s k (getD l 7 0) (getD l 8 0))
+  module _ (rows : List (List ℕ)) (s : Kept) (k : ℕ) (e : k ≡ kindOf (codeAt l)) where
+    pub stands : mayStand rows (pastOf s) (codeAt l) ≡ 1 ≤? goto rows (s .place) k & not (foreign s k (getD l 7 0) (getD l 8 0))
     unfolding mayStand foreign pastOf jobOf
     stands =
         rw (← e)
         (cases (k =? *AA*)
-        (λ a. cases (s .place =? nothing) (λ b. rw (a, b)) (λ b. rw (a, b, spelled) (ap (λ t. 1 ≤? goto (s .place) k & t) (same-job (getD l 7 0) (getD l 8 0)))))
+        (λ a. cases (s .place =? nothing) (λ b. rw (a, b)) (λ b. rw (a, b, spelled) (ap (λ t. 1 ≤? goto rows (s .place) k & t) (same-job (getD l 7 0) (getD l 8 0)))))
         (λ a. rw a))
       where
         same-job : (x y : ℕ) → sameBytes (42 ∷ x ∷ y ∷ 42 ∷ []) (42 ∷ s .first ∷ s .second ∷ 42 ∷ []) ≡ not (not (x =? s .first & y =? s .second))

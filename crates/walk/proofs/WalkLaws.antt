@@ -1,21 +1,21 @@
--- The loop over the records: what is left to do from here is what was to do at the start.
-use mathlib.Core.Path.{_≡_, refl, sym, _∙_, ap, ap₂, subst}
-use mathlib.Core.Bool.{Bool, true, false, cond, not, false≢true}
-use mathlib.Core.List.{List, [], _∷_, map}
+-- The loop over the records, for any rows and any last place: what is left to do from here is what was to do at the start.
+use mathlib.Core.Path.{_≡_, refl, sym, _∙_, ap, subst}
+use mathlib.Core.Bool.{true, cond, false≢true}
+use mathlib.Core.List.{List, _∷_, map}
 use Prim.Native.Nat.{ℕ, zero, suc, _+_, _-_, _≤_, _<_}
 use native.Mathlib.Omega.{arith}
 use lib.ListN.{length, getD, set, replicate, length-set, getD-replicate}
 use lib.Seq.{getD-set-same, getD-set-other, ext-getD}
-use Rattle.rules.specs.Tests.{_&_, _≤?_, _=?_}
+use Rattle.rules.specs.Tests.{_≤?_, _=?_}
 use Rattle.rules.specs.Fields.{Verdict, ok, fault, check, _⨾_, isOk}
-use Rattle.rules.specs.Records.{Meaning, codeAt, knownCode, judgeLine, meaning, formedLine, permitted}
-use Rattle.rules.specs.Kinds.{kindOf, *AA*, *25*, *70*, *72*, *80*}
-use Rattle.rules.specs.Order.{nothing, lastJob, goto}
+use Rattle.rules.specs.Records.{Meaning, Edition, codeAt, entries, numbered, judgeLine, meaning, formedLine, permitted}
+use Rattle.rules.specs.Kinds.{kindOf, known, *25*, *70*, *72*, *80*}
+use Rattle.rules.specs.Order.{nothing, goto}
 use Rattle.rules.specs.Files.{Result, accept, refuse, isAccept, inRecord, lineAt, begun, linesFrom, lines, meanings, walk}
 use Rattle.rules.specs.References.{isA, numberAt, mark, slotOf, filled, tally, counts}
 use Rattle.rules.specs.Calls.{answer}
-use Rattle.rules.specs.Chapter4.{Past, atStart, mayStand, latest, after, chapter4}
-use Rattle.rules.proofs.Truth.{both, and, to≤, of≤, to≡, of≡, no≡, of≢, cases, either, below-or-equal}
+use Rattle.rules.specs.Chapter4.{Past, atStart, mayStand, latest, after, ordered, chapter4}
+use Rattle.rules.proofs.Truth.{both, and, to≤, to≡, of≡, no≡, of≢, cases}
 use Rattle.rules.proofs.FieldLaws.{isOk-⨾, isOk-check}
 use Rattle.rules.proofs.RecordLaws.{judgeLine-splits}
 use Rattle.rules.proofs.FileLaws.{lines-more, lines-none}
@@ -28,21 +28,21 @@ use Rattle.walk.specs.declared.records.Stepped.{Stepped}
 use Rattle.walk.specs.declared.records.Stepped.the-variants.{Next, Fault}
 use Rattle.walk.specs.Keeping.{jobOf, pastOf, atFirst, latestIn, movedOf}
 use Rattle.walk.specs.Words.{noWords, leadIn, slotIn}
-use Rattle.walk.specs.Walking.{refusal, stepped, stepOf, Walked}
+use Rattle.walk.specs.Walking.{refusal, judgeAt, stepped, stepOf, Walked}
 use Rattle.walk.proofs.KeptLaws.{spelled}
 use Rattle.walk.proofs.WordLaws.{length-none}
 use Rattle.walk.proofs.NumberLaws.{lead-of-25, lead-of-70, lead-of-72, lead-of-80, its-kind, its-slot}
 
 -- ---- what is kept after a good record is what the rules keep
-module _ (s : Kept) (l : List ℕ) (good : isOk (judgeLine chapter4 (pastOf s) l) ≡ true) where
-  parts : (formedLine chapter4 l ≡ true) × (permitted chapter4 (pastOf s) (meaning chapter4 l) ≡ true)
-  parts = both (sym (judgeLine-splits chapter4 (pastOf s) l) ∙ good)
+module _ (rows : List (List ℕ)) (last : ℕ) (s : Kept) (l : List ℕ) (good : isOk (judgeLine (ordered rows last) (pastOf s) l) ≡ true) where
+  parts : (formedLine (ordered rows last) l ≡ true) × (permitted (ordered rows last) (pastOf s) (meaning (ordered rows last) l) ≡ true)
+  parts = both (sym (judgeLine-splits (ordered rows last) (pastOf s) l) ∙ good)
 
-  pub known : kindOf (codeAt l) ≤ 13
-  unfolding formedLine knownCode
-  known = to≤ (both (both (both (parts .0) .0) .0) .1)
+  of-a-kind : kindOf (codeAt l) ≤ 13
+  unfolding formedLine known
+  of-a-kind = to≤ (both (both (both (parts .0) .0) .0) .1)
 
-  placed : 1 ≤ goto (s .place) (kindOf (codeAt l))
+  placed : 1 ≤ goto rows (s .place) (kindOf (codeAt l))
   unfolding permitted meaning mayStand pastOf
   placed = to≤ (both (both (parts .1) .0) .0)
 
@@ -51,19 +51,19 @@ module _ (s : Kept) (l : List ℕ) (good : isOk (judgeLine chapter4 (pastOf s) l
     unfolding latestIn latest
     its-latest j old f = rw (its-kind l k e j) (cases (k =? j) (λ a. rw a (f a)) (λ a. rw a))
 
-    its-job : jobOf (movedOf s (goto (s .place) k) k (getD l 7 0) (getD l 8 0) (leadIn k l)) ≡ cond (s .place =? nothing) (codeAt l) (jobOf s)
+    its-job : jobOf (movedOf s (goto rows (s .place) k) k (getD l 7 0) (getD l 8 0) (leadIn k l)) ≡ cond (s .place =? nothing) (codeAt l) (jobOf s)
     unfolding jobOf movedOf
     its-job =
-        let p : 1 ≤ goto (s .place) k = rw e placed in
-        rw (of≢ {m = goto (s .place) k} {n = nothing} (λ z. omega arith)) (cases (s .place =? 0) (λ a. rw a (sym (spelled l known))) (λ a. rw a))
+        let p : 1 ≤ goto rows (s .place) k = rw e placed in
+        rw (of≢ {m = goto rows (s .place) k} {n = nothing} (λ z. omega arith)) (cases (s .place =? 0) (λ a. rw a (sym (spelled l of-a-kind))) (λ a. rw a))
 
     its-group : latestIn k *25* (leadIn k l) (latestIn k *70* 0 (s .group)) ≡ latest *25* (meaning chapter4 l) (cond (isA *70* (meaning chapter4 l)) 0 (s .group))
     its-group = its-latest *25* (latestIn k *70* 0 (s .group)) (lead-of-25 l k e) ∙ ap (latest *25* (meaning chapter4 l)) (unfold latestIn in rw (its-kind l k e *70*))
 
-    pub moved-past : pastOf (movedOf s (goto (s .place) k) k (getD l 7 0) (getD l 8 0) (leadIn k l)) ≡ after (pastOf s) (meaning chapter4 l)
+    pub moved-past : pastOf (movedOf s (goto rows (s .place) k) k (getD l 7 0) (getD l 8 0) (leadIn k l)) ≡ after rows (pastOf s) (meaning chapter4 l)
     unfolding pastOf movedOf after meaning
     moved-past j = record {
-      place = goto (s .place) (e j);
+      place = goto rows (s .place) (e j);
       job = its-job j;
       group = its-group j;
       point = its-latest *80* (s .point) (lead-of-80 l k e) j;
@@ -87,25 +87,30 @@ unfolding stepped
 stepped-fault ok m n c e = cc
 stepped-fault (fault n′ c′) m n c e = cc
 
-module _ (s : Kept) (r : ℕ) (l : List ℕ) (a : Stepped) (e : a ≡ stepOf s r l) where
-  pub step-refuses : (n c : ℕ) → a ≡ Fault n c → check (r ≤? 99_999) 2 1 ⨾ judgeLine chapter4 (pastOf s) l ≡ fault n c
+-- a line is judged alike wherever a file ends
+any-last : (rows : List (List ℕ)) (last : ℕ) (s : Kept) (r : ℕ) (l : List ℕ) → judgeAt rows s r l ≡ check (r ≤? 99_999) 2 1 ⨾ judgeLine (ordered rows last) (pastOf s) l
+unfolding judgeAt judgeLine numbered entries
+any-last rows last s r l = refl
+
+module _ (rows : List (List ℕ)) (last : ℕ) (s : Kept) (r : ℕ) (l : List ℕ) (a : Stepped) (e : a ≡ stepOf rows s r l) where
+  pub step-refuses : (n c : ℕ) → a ≡ Fault n c → check (r ≤? 99_999) 2 1 ⨾ judgeLine (ordered rows last) (pastOf s) l ≡ fault n c
   unfolding stepOf
-  step-refuses n c q = stepped-fault _ _ n c (sym e ∙ q)
+  step-refuses n c q = sym (any-last rows last s r l) ∙ stepped-fault _ _ n c (sym e ∙ q)
 
   module _ (u : Kept) (q : a ≡ Next u) where
-    fine : (r ≤? 99_999 ≡ true) × (isOk (judgeLine chapter4 (pastOf s) l) ≡ true)
+    fine : (r ≤? 99_999 ≡ true) × (isOk (judgeLine (ordered rows last) (pastOf s) l) ≡ true)
     unfolding stepOf
-    fine = both (sym (isOk-⨾ (check (r ≤? 99_999) 2 1) _ ∙ rw (isOk-check (r ≤? 99_999) 2 1)) ∙ stepped-ok _ _ u (sym e ∙ q))
+    fine = both (sym (ap isOk (any-last rows last s r l) ∙ isOk-⨾ (check (r ≤? 99_999) 2 1) _ ∙ rw (isOk-check (r ≤? 99_999) 2 1)) ∙ stepped-ok _ _ u (sym e ∙ q))
 
     pub step-few : r ≤ 99_999
     step-few = to≤ (fine .0)
 
     pub step-known : kindOf (codeAt l) < 14
-    step-known = let h : kindOf (codeAt l) ≤ 13 = known s l (fine .1) in omega arith
+    step-known = let h : kindOf (codeAt l) ≤ 13 = of-a-kind rows last s l (fine .1) in omega arith
 
-    step-past : pastOf u ≡ after (pastOf s) (meaning chapter4 l)
+    step-past : pastOf u ≡ after rows (pastOf s) (meaning (ordered rows last) l)
     unfolding stepOf
-    step-past = ap pastOf (sym (stepped-moves _ _ u (sym e ∙ q))) ∙ moved-past s l (fine .1) (kindOf (codeAt l)) refl
+    step-past = ap pastOf (sym (stepped-moves _ _ u (sym e ∙ q))) ∙ (unfold meaning in moved-past rows last s l (fine .1) (kindOf (codeAt l)) refl)
 
 -- ---- answers
 pub refused-is : (m r c : ℕ) (x : Result) (ms : List Meaning) → refuse m r c ≡ x → refusal m r c ≡ checkedOf (answer x ms)
@@ -118,13 +123,14 @@ pub refused-not : (m r c : ℕ) (x : Result) → refuse m r c ≡ x → isAccept
 unfolding isAccept
 refused-not m r c x e h = false≢true (ap isAccept e ∙ h)
 
-walk-bad : (p : Past) (r : ℕ) (l : List ℕ) (ls : List (List ℕ)) (m c : ℕ) → check (r ≤? 99_999) 2 1 ⨾ judgeLine chapter4 p l ≡ fault m c → refuse m r c ≡ walk chapter4 p r (l ∷ ls)
-unfolding walk inRecord
-walk-bad p r l ls m c e = rw e
+module _ {S : Type 0} (E : Edition S) (p : S) (r : ℕ) (l : List ℕ) (ls : List (List ℕ)) where
+  walk-bad : (m c : ℕ) → check (r ≤? 99_999) 2 1 ⨾ judgeLine E p l ≡ fault m c → refuse m r c ≡ walk E p r (l ∷ ls)
+  unfolding walk inRecord
+  walk-bad m c e = rw e
 
-walk-good : (p : Past) (r : ℕ) (l : List ℕ) (ls : List (List ℕ)) → check (r ≤? 99_999) 2 1 ⨾ judgeLine chapter4 p l ≡ ok → walk chapter4 (after p (meaning chapter4 l)) (r + 1) ls ≡ walk chapter4 p r (l ∷ ls)
-unfolding walk inRecord
-walk-good p r l ls e = rw e
+  walk-good : check (r ≤? 99_999) 2 1 ⨾ judgeLine E p l ≡ ok → walk E (E .next p (meaning E l)) (r + 1) ls ≡ walk E p r (l ∷ ls)
+  unfolding walk inRecord
+  walk-good e = rw e
 
 -- ---- one record more
 count-one : (cs : List ℕ) (k : ℕ) (m : Meaning) (ms : List Meaning) (j total : ℕ) → k < length cs → isA j m ≡ k =? j
@@ -149,24 +155,24 @@ unfolding mark
 length-mark r j t = cases (getD t j 0 =? 0) (λ e. rw e (length-set t j r)) (λ e. rw e)
 
 -- before record i + 1, with the counts cs and the table t
-pub record Going (f : List ℕ) (n : ℕ) (t : List ℕ) (s : Kept) (cs : List ℕ) (i : ℕ) : Type 0 where
+pub record Going (E : Edition Past) (f : List ℕ) (n : ℕ) (t : List ℕ) (s : Kept) (cs : List ℕ) (i : ℕ) : Type 0 where
   pub count : n ≡ begun f
   pub few : i ≤ 99_999
   pub kinds : length cs ≡ 14
   pub below : (j : ℕ) → getD cs j 0 ≤ i
-  pub counting : (k : ℕ) → k < 14 → getD cs k 0 + tally k (map (meaning chapter4) (linesFrom f (n - i) i)) ≡ tally k (meanings chapter4 f)
+  pub counting : (k : ℕ) → k < 14 → getD cs k 0 + tally k (map (meaning E) (linesFrom f (n - i) i)) ≡ tally k (meanings E f)
   pub size : length t ≡ 12_000
-  pub same : walk chapter4 (pastOf s) (i + 1) (linesFrom f (n - i) i) ≡ walk chapter4 atStart 1 (lines f)
-  pub filling : filled (i + 1) (map (meaning chapter4) (linesFrom f (n - i) i)) t ≡ filled 1 (meanings chapter4 f) noWords
+  pub same : walk E (pastOf s) (i + 1) (linesFrom f (n - i) i) ≡ walk E (E .start) 1 (lines f)
+  pub filling : filled (i + 1) (map (meaning E) (linesFrom f (n - i) i)) t ≡ filled 1 (meanings E f) noWords
 
 none-yet : (n i j : ℕ) → getD (replicate n 0) j 0 ≤ i
 none-yet zero i j = omega arith
 none-yet (suc n) i zero = omega arith
 none-yet (suc n) i (suc j) = none-yet n i j
 
-pub go-from : (f t : List ℕ) → t ≡ noWords → (n : ℕ) → n ≡ begun f → Going f n t atFirst (replicate 14 0) 0
+pub go-from : (rows : List (List ℕ)) (last : ℕ) (f t : List ℕ) → t ≡ noWords → (n : ℕ) → n ≡ begun f → Going (ordered rows last) f n t atFirst (replicate 14 0) 0
 unfolding meanings lines
-go-from f t zeros n e =
+go-from rows last f t zeros n e =
     let z : n - 0 ≡ begun f = omega arith in
     record {
       count = e;
@@ -175,42 +181,45 @@ go-from f t zeros n e =
       below = none-yet 14 0;
       counting = λ k h. rw (z, getD-replicate {A = ℕ} 14 k 0 0 h) (omega arith);
       size = ap length zeros ∙ length-none;
-      same = rw z (ap (λ p. walk chapter4 p 1 (linesFrom f (begun f) 0)) first);
+      same = rw z (ap (λ p. walk (ordered rows last) p 1 (linesFrom f (begun f) 0)) first);
       filling = rw (z, zeros);
     }
   where
     first : pastOf atFirst ≡ atStart
     first = unfold pastOf jobOf atStart _=?_ in refl
 
-module _ (f : List ℕ) (n : ℕ) (t : List ℕ) (s : Kept) (cs : List ℕ) (i : ℕ) (g : Going f n t s cs i) where
-  module _ (h : i < n) (l : List ℕ) (el : l ≡ lineAt f i) (a : Stepped) (ea : a ≡ stepOf s (i + 1) l) where
-    here : walk chapter4 (pastOf s) (i + 1) (lineAt f i ∷ linesFrom f (n - (i + 1)) (i + 1)) ≡ walk chapter4 atStart 1 (lines f)
+module _ (rows : List (List ℕ)) (last : ℕ) (f : List ℕ) (n : ℕ) (t : List ℕ) (s : Kept) (cs : List ℕ) (i : ℕ) (g : Going (ordered rows last) f n t s cs i) where
+  abbrev E : Edition Past
+  E = ordered rows last
+
+  module _ (h : i < n) (l : List ℕ) (el : l ≡ lineAt f i) (a : Stepped) (ea : a ≡ stepOf rows s (i + 1) l) where
+    here : walk E (pastOf s) (i + 1) (lineAt f i ∷ linesFrom f (n - (i + 1)) (i + 1)) ≡ walk E atStart 1 (lines f)
     here = rw (lines-more f n i h) at (g .same)
 
-    pub go-fault : (m c : ℕ) → a ≡ Fault m c → {v : Checked} → v ≡ refusal m (i + 1) c → Walked f v t
+    pub go-fault : (m c : ℕ) → a ≡ Fault m c → {v : Checked} → v ≡ refusal m (i + 1) c → Walked E f v t
     go-fault m c q w =
-        let z : refuse m (i + 1) c ≡ walk chapter4 atStart 1 (lines f) = walk-bad (pastOf s) (i + 1) (lineAt f i) _ m c (rw (← el) (step-refuses s (i + 1) l a ea m c q)) ∙ here in
+        let z : refuse m (i + 1) c ≡ walk E atStart 1 (lines f) = walk-bad E (pastOf s) (i + 1) (lineAt f i) _ m c (rw (← el) (step-refuses rows last s (i + 1) l a ea m c q)) ∙ here in
         record {
-          first = w ∙ refused-is m (i + 1) c _ (meanings chapter4 f) z;
+          first = w ∙ refused-is m (i + 1) c _ (meanings E f) z;
           size = g .size;
           filling = λ y. absurd (refused-not m (i + 1) c _ z y);
         }
 
     module _ (u : Kept) (q : a ≡ Next u) (k : ℕ) (ek : k ≡ kindOf (codeAt l)) where
       pub go-known : k < 14
-      go-known = rw ek (step-known s (i + 1) l a ea u q)
+      go-known = rw ek (step-known rows last s (i + 1) l a ea u q)
 
       pub go-few : i + 1 ≤ 99_999
-      go-few = step-few s (i + 1) l a ea u q
+      go-few = step-few rows last s (i + 1) l a ea u q
 
-      passes : check (i + 1 ≤? 99_999) 2 1 ⨾ judgeLine chapter4 (pastOf s) l ≡ ok
-      passes = is-ok _ (isOk-⨾ (check (i + 1 ≤? 99_999) 2 1) _ ∙ rw (isOk-check (i + 1 ≤? 99_999) 2 1) (and (fine s (i + 1) l a ea u q .0) (fine s (i + 1) l a ea u q .1)))
+      passes : check (i + 1 ≤? 99_999) 2 1 ⨾ judgeLine E (pastOf s) l ≡ ok
+      passes = is-ok _ (isOk-⨾ (check (i + 1 ≤? 99_999) 2 1) _ ∙ rw (isOk-check (i + 1 ≤? 99_999) 2 1) (and (fine rows last s (i + 1) l a ea u q .0) (fine rows last s (i + 1) l a ea u q .1)))
         where
           is-ok : (v : Verdict) → isOk v ≡ true → v ≡ ok
           is-ok ok y = refl
           is-ok (fault m c) y = absurd (false≢true (unfold isOk in y))
 
-      pub go-next : (v : List ℕ) → v ≡ mark (i + 1) (slotIn k (leadIn k l)) t → Going f n v u (set cs k (getD cs k 0 + 1)) (i + 1)
+      pub go-next : (v : List ℕ) → v ≡ mark (i + 1) (slotIn k (leadIn k l)) t → Going E f n v u (set cs k (getD cs k 0 + 1)) (i + 1)
       go-next v ev =
           let small : k < length cs = rw (g .kinds) go-known in
           record {
@@ -218,48 +227,50 @@ module _ (f : List ℕ) (n : ℕ) (t : List ℕ) (s : Kept) (cs : List ℕ) (i :
             few = go-few;
             kinds = length-set cs k _ ∙ g .kinds;
             below = bump-below cs k i small (g .below);
-            counting = λ j y. count-one cs k (meaning chapter4 (lineAt f i)) _ j (tally j (meanings chapter4 f)) small (its-kind (lineAt f i) k (ek ∙ ap (λ (x : List ℕ). kindOf (codeAt x)) el) j) (rw (lines-more f n i h) at (g .counting j y));
+            counting = λ j y. count-one cs k (meaning E (lineAt f i)) _ j (tally j (meanings E f)) small (unfold meaning in its-kind (lineAt f i) k (ek ∙ ap (λ (x : List ℕ). kindOf (codeAt x)) el) j) (rw (lines-more f n i h) at (g .counting j y));
             size = ap length ev ∙ length-mark (i + 1) (slotIn k (leadIn k l)) t ∙ g .size;
-            same = ap (λ p. walk chapter4 p (i + 1 + 1) (linesFrom f (n - (i + 1)) (i + 1))) (step-past s (i + 1) l a ea u q ∙ ap (λ (x : List ℕ). after (pastOf s) (meaning chapter4 x)) el) ∙ onward;
-            filling = ap (filled (i + 1 + 1) (map (meaning chapter4) (linesFrom f (n - (i + 1)) (i + 1)))) (ev ∙ marked) ∙ fills;
+            same = ap (λ p. walk E p (i + 1 + 1) (linesFrom f (n - (i + 1)) (i + 1))) (step-past rows last s (i + 1) l a ea u q ∙ ap (λ (x : List ℕ). after rows (pastOf s) (meaning E x)) el) ∙ onward;
+            filling = ap (filled (i + 1 + 1) (map (meaning E) (linesFrom f (n - (i + 1)) (i + 1)))) (ev ∙ marked) ∙ fills;
           }
         where
-          onward : walk chapter4 (after (pastOf s) (meaning chapter4 (lineAt f i))) (i + 1 + 1) (linesFrom f (n - (i + 1)) (i + 1)) ≡ walk chapter4 atStart 1 (lines f)
-          onward = walk-good (pastOf s) (i + 1) (lineAt f i) _ (rw (← el) passes) ∙ here
+          onward : walk E (after rows (pastOf s) (meaning E (lineAt f i))) (i + 1 + 1) (linesFrom f (n - (i + 1)) (i + 1)) ≡ walk E atStart 1 (lines f)
+          onward = walk-good E (pastOf s) (i + 1) (lineAt f i) _ (rw (← el) passes) ∙ here
 
-          marked : mark (i + 1) (slotIn k (leadIn k l)) t ≡ mark (i + 1) (slotOf (meaning chapter4 (lineAt f i))) t
-          marked = ap (λ j. mark (i + 1) j t) (sym (its-slot l k ek) ∙ ap (λ (x : List ℕ). slotOf (meaning chapter4 x)) el)
+          marked : mark (i + 1) (slotIn k (leadIn k l)) t ≡ mark (i + 1) (slotOf (meaning E (lineAt f i))) t
+          marked =
+              let own : slotOf (meaning E l) ≡ slotIn k (leadIn k l) = unfold meaning in its-slot l k ek in
+              ap (λ j. mark (i + 1) j t) (sym own ∙ ap (λ (x : List ℕ). slotOf (meaning E x)) el)
 
-          fills : filled (i + 1 + 1) (map (meaning chapter4) (linesFrom f (n - (i + 1)) (i + 1))) (mark (i + 1) (slotOf (meaning chapter4 (lineAt f i))) t) ≡ filled 1 (meanings chapter4 f) noWords
+          fills : filled (i + 1 + 1) (map (meaning E) (linesFrom f (n - (i + 1)) (i + 1))) (mark (i + 1) (slotOf (meaning E (lineAt f i))) t) ≡ filled 1 (meanings E f) noWords
           fills = unfold filled in (rw (lines-more f n i h) at (g .filling))
 
   -- the end of the file
   module _ (h : n ≤ i) where
-    ended : cond (s .place =? lastJob) accept (refuse 8 (i + 1) 1) ≡ walk chapter4 atStart 1 (lines f)
+    ended : cond (s .place =? last) accept (refuse 8 (i + 1) 1) ≡ walk E atStart 1 (lines f)
     unfolding walk pastOf
     ended = rw (lines-none f n i h) at (g .same)
 
-    pub go-short : (s .place ≡ 16 → ⊥) → {v : Checked} → v ≡ refusal 8 (i + 1) 1 → Walked f v t
+    pub go-short : (s .place ≡ last → ⊥) → {v : Checked} → v ≡ refusal 8 (i + 1) 1 → Walked E f v t
     go-short e w =
-        let z : refuse 8 (i + 1) 1 ≡ walk chapter4 atStart 1 (lines f) = rw (of≢ e) at ended in
+        let z : refuse 8 (i + 1) 1 ≡ walk E atStart 1 (lines f) = rw (of≢ e) at ended in
         record {
-          first = w ∙ refused-is 8 (i + 1) 1 _ (meanings chapter4 f) z;
+          first = w ∙ refused-is 8 (i + 1) 1 _ (meanings E f) z;
           size = g .size;
           filling = λ y. absurd (refused-not 8 (i + 1) 1 _ z y);
         }
 
-    all-counted : cs ≡ counts (meanings chapter4 f)
+    all-counted : cs ≡ counts (meanings E f)
     all-counted =
-        ext-getD 0 cs (counts (meanings chapter4 f)) (g .kinds ∙ sym (unfold counts in length-tabulate (λ k. tally k (meanings chapter4 f)) 14 0)) (λ k y. told k (rw (g .kinds) at y))
+        ext-getD 0 cs (counts (meanings E f)) (g .kinds ∙ sym (unfold counts in length-tabulate (λ k. tally k (meanings E f)) 14 0)) (λ k y. told k (rw (g .kinds) at y))
       where
-        told : (k : ℕ) → k < 14 → getD cs k 0 ≡ getD (counts (meanings chapter4 f)) k 0
-        told k y = let z : getD cs k 0 + 0 ≡ tally k (meanings chapter4 f) = unfold tally in (rw (lines-none f n i h) at (g .counting k y)) in omega (arith, z, count-at (meanings chapter4 f) k y)
+        told : (k : ℕ) → k < 14 → getD cs k 0 ≡ getD (counts (meanings E f)) k 0
+        told k y = let z : getD cs k 0 + 0 ≡ tally k (meanings E f) = unfold tally in (rw (lines-none f n i h) at (g .counting k y)) in omega (arith, z, count-at (meanings E f) k y)
 
-    pub go-good : s .place ≡ 16 → Walked f record { fault = record { number = 0; «record» = 0; column = 0 }; counts = cs } t
+    pub go-good : s .place ≡ last → Walked E f record { fault = record { number = 0; «record» = 0; column = 0 }; counts = cs } t
     go-good e =
-        let z : accept ≡ walk chapter4 atStart 1 (lines f) = rw (of≡ e) at ended in
+        let z : accept ≡ walk E atStart 1 (lines f) = rw (of≡ e) at ended in
         record {
-          first = rw all-counted (accepted-is _ (meanings chapter4 f) z);
+          first = rw all-counted (accepted-is _ (meanings E f) z);
           size = g .size;
           filling = λ y. unfold filled in (rw (lines-none f n i h) at (g .filling));
         }

@@ -1,9 +1,9 @@
 -- What the walk keeps of the records before, as the code has it.
-use mathlib.Core.Bool.{Bool, true, false, cond, not}
+use mathlib.Core.Bool.{Bool, false, cond, not}
 use mathlib.Core.List.{List, [], _∷_}
 use Prim.Native.Nat.{ℕ}
-use lib.ListN.{getD}
-use Rattle.rules.specs.Tests.{_&_, _≤?_, _=?_}
+use lib.ListN.{length}
+use Rattle.rules.specs.Tests.{all, _&_, _≤?_, _=?_}
 use Rattle.rules.specs.Kinds.{*AA*, *25*, *27*, *70*, *72*, *80*, *86*}
 use Rattle.rules.specs.Order.{nothing}
 use Rattle.rules.specs.Chapter4.{Past}
@@ -11,9 +11,9 @@ use Rattle.kinds.specs.declared.Expect.{Expect}
 use Rattle.kinds.specs.declared.Expect.the-variants as X
 use Rattle.walk.specs.declared.kept.Kept.{Kept}
 
--- in any table of 17 rows of 14: the place that a kind makes, 0 outside the table
-unfoldable pub lookIn : List (List ℕ) → ℕ → ℕ → ℕ
-lookIn rows place kind = cond (17 ≤? place) 0 (cond (14 ≤? kind) 0 (getD (getD rows place []) kind 0))
+-- 01, "a constant array of rows over fourteen kinds": what the code's array has room for
+unfoldable pub tabular : List (List ℕ) → Bool
+tabular rows = length rows ≤? 17 & all (λ row. length row ≤? 14) rows
 
 -- the first record's code, where there was one
 unfoldable pub jobOf : Kept → List ℕ

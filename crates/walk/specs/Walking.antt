@@ -6,13 +6,13 @@ use Prim.Native.Nat.{ℕ}
 use lib.ListN.{length, getD, replicate}
 use Rattle.rules.specs.Tests.{_≤?_, _=?_}
 use Rattle.rules.specs.Fields.{Verdict, ok, fault, check, _⨾_}
-use Rattle.rules.specs.Records.{codeAt, judgeLine}
+use Rattle.rules.specs.Records.{Edition, codeAt, judgeLine}
 use Rattle.rules.specs.Kinds.{kindOf}
-use Rattle.rules.specs.Order.{goto}
+use Rattle.rules.specs.Order.{lastJob, goto}
 use Rattle.rules.specs.Files.{isAccept, lines, meanings, walk, verdict}
 use Rattle.rules.specs.References.{words, filled}
 use Rattle.rules.specs.Calls.{answer}
-use Rattle.rules.specs.Chapter4.{atStart, chapter4}
+use Rattle.rules.specs.Chapter4.{ordered, chapter4}
 use Rattle.kinds.specs.declared.Checked.{Checked}
 use Rattle.kinds.specs.Values.{checkedOf}
 use Rattle.walk.specs.declared.kept.Kept.{Kept}
@@ -24,21 +24,25 @@ use Rattle.walk.specs.Words.{noWords, leadIn}
 abbrev pub refusal : ℕ → ℕ → ℕ → Checked
 refusal n r c = record { fault = record { number = n; «record» = r; column = c }; counts = replicate 14 0 }
 
+-- 01, "Order": 2, then the line's own, by any rows; where a file ends makes no difference to a line
+unfoldable pub judgeAt : (rows : List (List ℕ)) → Kept → ℕ → List ℕ → Verdict
+judgeAt rows s r l = check (r ≤? 99_999) 2 1 ⨾ judgeLine (ordered rows lastJob) (pastOf s) l
+
 -- where record r of a file stands in it: its own fault, or what is kept after it
 unfoldable pub stepped : Verdict → Kept → Stepped
 stepped ok s = Next s
 stepped (fault n c) s = Fault n c
 
-unfoldable pub stepOf : Kept → ℕ → List ℕ → Stepped
-stepOf s r l =
+unfoldable pub stepOf : (rows : List (List ℕ)) → Kept → ℕ → List ℕ → Stepped
+stepOf rows s r l =
     let k = kindOf (codeAt l) in
-    stepped (check (r ≤? 99_999) 2 1 ⨾ judgeLine chapter4 (pastOf s) l) (movedOf s (goto (s .place) k) k (getD l 7 0) (getD l 8 0) (leadIn k l))
+    stepped (judgeAt rows s r l) (movedOf s (goto rows (s .place) k) k (getD l 7 0) (getD l 8 0) (leadIn k l))
 
 -- what the walk answers of a file, and the words t that it leaves where they were all 0; after a fault they are not looked at again
-pub record Walked (f : List ℕ) (v : Checked) (t : List ℕ) : Type 0 where
-  pub first : v ≡ checkedOf (answer (walk chapter4 atStart 1 (lines f)) (meanings chapter4 f))
+pub record Walked {S : Type 0} (E : Edition S) (f : List ℕ) (v : Checked) (t : List ℕ) : Type 0 where
+  pub first : v ≡ checkedOf (answer (walk E (E .start) 1 (lines f)) (meanings E f))
   pub size : length t ≡ 12_000
-  pub filling : isAccept (walk chapter4 atStart 1 (lines f)) ≡ true → t ≡ filled 1 (meanings chapter4 f) noWords
+  pub filling : isAccept (walk E (E .start) 1 (lines f)) ≡ true → t ≡ filled 1 (meanings E f) noWords
 
 -- a refusal leaves zeros
 unfoldable pub settledOf : Checked → List ℕ → List ℕ

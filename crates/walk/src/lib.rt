@@ -5,6 +5,7 @@ pub mod records;
 pub mod references;
 pub mod words;
 
+use crate::order::LAST_JOB;
 use crate::order::ORDER;
 use crate::records::refused;
 use crate::records::walk_records;
@@ -23,7 +24,7 @@ ghost use Rattle.walk.specs.Promise.{Promised};
 
 // 11 and 12 are judged only where the walk found none of the others.
 fn refer_walked(file: &[u8], words: &[u32], v: Checked) -> Checked
-    requires { ⌜ Walked (now file) v (now words) ⌝ }
+    requires { ⌜ Walked chapter4 (now file) v (now words) ⌝ }
     ensures { λ a. ⌜ a ≡ checkedOf (answer (verdict chapter4 (now (file .entry))) (meanings chapter4 (now (file .entry)))) ⌝ }
 {
     if v.fault.number != 0 {
@@ -48,7 +49,7 @@ fn judge_file(file: &[u8], words: &mut [u32]) -> Checked
     ensures words { λ _. ⌜ now (words .exit) ≡ tableAfter (now (file .entry)) ⌝ }
 {
     clear(words);
-    let walked = walk_records(file, words, &ORDER, &CLASSES);
+    let walked = walk_records(file, words, &ORDER, LAST_JOB, &CLASSES);
     let found = refer_walked(file, words, walked);
     settle(words, found);
     found

@@ -1,7 +1,9 @@
 // What may follow what: the next place, by place and kind.
 use kinds::tables::wide;
 ghost use mathlib.Core.Path.{_≡_};
-ghost use Rattle.walk.specs.Keeping.{lookIn};
+ghost use mathlib.Core.Bool.{true};
+ghost use Rattle.rules.specs.Order.{goto};
+ghost use Rattle.walk.specs.Keeping.{tabular};
 
 // A row for each place, in the order of the paper's table; in it the place that each of the fourteen kinds makes, 0 where it may not come.
 pub(crate) const ORDER: [[u8; 14]; 17] = [
@@ -24,9 +26,13 @@ pub(crate) const ORDER: [[u8; 14]; 17] = [
     [0, 0, 0, 0, 0, 0, 0, 0, 0, 0, 0, 0, 0, 0],
 ];
 
+// The place that a file ends at.
+pub(crate) const LAST_JOB: usize = 16;
+
 // In any table of rows: the place that a kind makes.
 pub(crate) fn look_up(rows: &[[u8; 14]; 17], place: usize, kind: usize) -> usize
-    ensures { λ r. ⌜ r ≡ lookIn (now (rows .entry)) place kind ⌝ }
+    requires { ⌜ tabular (now rows) ≡ true ⌝ }
+    ensures { λ r. ⌜ r ≡ goto (now (rows .entry)) place kind ⌝ }
 {
     if 17 <= place {
         return 0;

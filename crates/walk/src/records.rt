@@ -17,17 +17,16 @@ use quick::fits;
 use reading::lines::count_begun;
 use reading::lines::line;
 ghost use mathlib.Core.Path.{_≡_};
-ghost use Rattle.rules.specs.Tests.{_≤?_};
-ghost use Rattle.rules.specs.Fields.{check, _⨾_};
-ghost use Rattle.rules.specs.Records.{codeAt, judgeLine};
+ghost use mathlib.Core.Bool.{true};
+ghost use Rattle.rules.specs.Records.{codeAt};
 ghost use Rattle.rules.specs.Kinds.{kindOf};
-ghost use Rattle.rules.specs.Order.{order, goto};
-ghost use Rattle.rules.specs.Chapter4.{chapter4};
+ghost use Rattle.rules.specs.Order.{goto};
+ghost use Rattle.rules.specs.Chapter4.{ordered};
 ghost use Rattle.kinds.specs.Values.{judgedOf};
 ghost use Rattle.quick.specs.Rows.{classTable};
-ghost use Rattle.walk.specs.Keeping.{pastOf};
+ghost use Rattle.walk.specs.Keeping.{tabular};
 ghost use Rattle.walk.specs.Words.{noWords};
-ghost use Rattle.walk.specs.Walking.{refusal, stepOf, Walked};
+ghost use Rattle.walk.specs.Walking.{refusal, judgeAt, stepOf, Walked};
 
 // What one record does to the walk.
 pub enum Stepped {
@@ -48,10 +47,10 @@ pub fn refused(number: u32, record: usize, column: usize) -> Checked
     }
 }
 
-// Record r, where `next` is the place that its kind makes.
-fn judge_placed(s: Kept, next: usize, r: usize, line: &[u8], kind: usize) -> Judged
-    requires { ⌜ (kind ≡ kindOf (codeAt (now line))) × (next ≡ goto (s .place) kind) ⌝ }
-    ensures { λ v. ⌜ v ≡ judgedOf (check (r ≤? 99_999) 2 1 ⨾ judgeLine chapter4 (pastOf s) (now (line .entry))) ⌝ }
+// Record r, judged test by test.
+fn judge_placed(rows: &[[u8; 14]; 17], s: Kept, r: usize, line: &[u8], kind: usize) -> Judged
+    requires { ⌜ (kind ≡ kindOf (codeAt (now line))) × (tabular (now rows) ≡ true) ⌝ }
+    ensures { λ v. ⌜ v ≡ judgedOf (judgeAt (now (rows .entry)) s r (now (line .entry))) ⌝ }
 {
     if 99_999 < r {
         return Judged::Bad(2, 1);
@@ -63,7 +62,7 @@ fn judge_placed(s: Kept, next: usize, r: usize, line: &[u8], kind: usize) -> Jud
     if 13 < kind {
         return Judged::Bad(6, 7);
     }
-    if next == 0 {
+    if look_up(rows, s.place, kind) == 0 {
         return Judged::Bad(7, 7);
     }
     if is_foreign(s, kind, byte_at(line, 7), byte_at(line, 8)) {
@@ -72,8 +71,9 @@ fn judge_placed(s: Kept, next: usize, r: usize, line: &[u8], kind: usize) -> Jud
     judge_rest(line, kind, expect(s, kind))
 }
 
-// Hardly a record has a fault, so each is first tested as a whole.
+// Hardly a record has a fault, so each is first tested as a whole; `next` is the place that its kind makes.
 fn judge_quickly(
+    rows: &[[u8; 14]; 17],
     s: Kept,
     next: usize,
     r: usize,
@@ -81,13 +81,13 @@ fn judge_quickly(
     kind: usize,
     classes: &[[[u8; 80]; 5]; 14],
 ) -> Judged
-    requires { ⌜ (kind ≡ kindOf (codeAt (now line))) × (next ≡ goto (s .place) kind) × (now classes ≡ classTable) ⌝ }
-    ensures { λ v. ⌜ v ≡ judgedOf (check (r ≤? 99_999) 2 1 ⨾ judgeLine chapter4 (pastOf s) (now (line .entry))) ⌝ }
+    requires { ⌜ (kind ≡ kindOf (codeAt (now line))) × (tabular (now rows) ≡ true) × (next ≡ goto (now rows) (s .place) kind) × (now classes ≡ classTable) ⌝ }
+    ensures { λ v. ⌜ v ≡ judgedOf (judgeAt (now (rows .entry)) s r (now (line .entry))) ⌝ }
 {
     if (next != 0) & (r <= 99_999) & fits(line, kind, expect(s, kind), classes) {
         return Judged::Good;
     }
-    judge_placed(s, next, r, line, kind)
+    judge_placed(rows, s, r, line, kind)
 }
 
 fn step(
@@ -98,11 +98,11 @@ fn step(
     kind: usize,
     classes: &[[[u8; 80]; 5]; 14],
 ) -> Stepped
-    requires { ⌜ (kind ≡ kindOf (codeAt (now line))) × (now rows ≡ order) × (now classes ≡ classTable) ⌝ }
-    ensures { λ a. ⌜ a ≡ stepOf s r (now (line .entry)) ⌝ }
+    requires { ⌜ (kind ≡ kindOf (codeAt (now line))) × (tabular (now rows) ≡ true) × (now classes ≡ classTable) ⌝ }
+    ensures { λ a. ⌜ a ≡ stepOf (now (rows .entry)) s r (now (line .entry)) ⌝ }
 {
     let next = look_up(rows, s.place, kind);
-    match judge_quickly(s, next, r, line, kind, classes) {
+    match judge_quickly(rows, s, next, r, line, kind, classes) {
         Judged::Bad(n, c) => Stepped::Fault(n, c),
         Judged::Good => Stepped::Next(moved(
             s,
@@ -115,15 +115,17 @@ fn step(
     }
 }
 
-// The first fault, or the counts; each good record that defines a number is put into the table.
+// The first fault, or the counts, by any rows and the place that a file ends at; each good record that defines a number is put into the
+// table.
 pub(crate) fn walk_records(
     file: &[u8],
     words: &mut [u32],
     rows: &[[u8; 14]; 17],
+    last: usize,
     classes: &[[[u8; 80]; 5]; 14],
 ) -> Checked
-    requires { ⌜ (now words ≡ noWords) × (now rows ≡ order) × (now classes ≡ classTable) ⌝ }
-    ensures { λ v. ⌜ Walked (now (file .entry)) v (now (words .exit)) ⌝ }
+    requires { ⌜ (now words ≡ noWords) × (tabular (now rows) ≡ true) × (now classes ≡ classTable) ⌝ }
+    ensures { λ v. ⌜ Walked (ordered (now (rows .entry)) last) (now (file .entry)) v (now (words .exit)) ⌝ }
 {
     let n = count_begun(file);
     let mut s = Kept {
@@ -152,7 +154,7 @@ pub(crate) fn walk_records(
         mark_record(words, l, kind, i as u32 + 1);
         i += 1;
     }
-    if s.place != 16 {
+    if s.place != last {
         return refused(8, i + 1, 1);
     }
     Checked {

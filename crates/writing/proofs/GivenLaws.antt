@@ -12,8 +12,8 @@ use Rattle.rules.specs.Characters.{isDigit, isLetter, letter, digit, _or_, memb
 use Rattle.rules.specs.Digits.{val}
 use Rattle.rules.specs.Items.{Value, text, fits, render, number, media, angle, latitude, longitude, num}
 use Rattle.rules.specs.Fields.{Verdict, ok, fault, check, _⨾_, isOk, anything, given, entriesOf, agrees, agreesWith, judgeEach, judge, isFormed, formed}
-use Rattle.rules.specs.Records.{sequence, knownCode, told, ofKind, judgeGiven, meant, lineOf}
-use Rattle.rules.specs.Kinds.{dataCodes, kindFrom, starred, kindBetween, kindOf}
+use Rattle.rules.specs.Records.{sequence, told, ofKind, judgeGiven, meant, lineOf}
+use Rattle.rules.specs.Kinds.{dataCodes, kindFrom, starred, kindBetween, kindOf, known}
 use Rattle.rules.specs.Layouts.{at, anyText, kept, titled, project, occupation, comment, measurement, receiver, aerial, point, heights, layouts, layout}
 use Rattle.rules.specs.Chapter4.{chapter4}
 use Rattle.rules.specs.Calls.{writeVerdict, writeOutput}
@@ -87,7 +87,7 @@ module _ (r : Record) (a b c : List ℕ) (e : kindOf (codeOf r) ≡ kindNumber r
   told-is = rw layout-is
 
   of-kind : ofKind chapter4 (kindNumber r) (meaningOf r a b c) ≡ true
-  unfolding ofKind knownCode meaningOf
+  unfolding ofKind known meaningOf
   of-kind = and (and (rw e (of≤ (below-14 r))) (of≡ e)) (of≡ (one-each r a b c ∙ ap length (sym layout-is)))
 
   pub judge-known : judgeRecord r a b c ≡ judge anything (entriesOf (layoutOf (kindNumber r)) (valuesOf r a b c))

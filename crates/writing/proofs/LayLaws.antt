@@ -12,7 +12,7 @@ use borrow.Rule.Slice.PartMut.{midOf, putMid}
 use Rattle.rules.specs.Tests.{_=?_, all}
 use Rattle.rules.specs.Items.{Item, number, media, Value, onNumber, width, fits, render}
 use Rattle.rules.specs.Fields.{Field, given, entriesOf, isFormed, formed, renders, covers}
-use Rattle.rules.specs.Records.{Meaning, sequence, knownCode, told, meant, lineOf}
+use Rattle.rules.specs.Records.{Meaning, sequence, told, meant, lineOf}
 use Rattle.rules.specs.Layouts.{layout}
 use Rattle.rules.specs.Chapter4.{chapter4}
 use Rattle.rules.proofs.Truth.{both, and, to≤, of≤, to≡, of≡, cases}
@@ -145,11 +145,11 @@ laid-fields {P} {l} n (f ∷ fs) (x ∷ xs) v h d k =
 -- a whole line: sequence number, code, fields, line feed
 pub line-laid : (q : Value) (m : Meaning) (l : List ℕ) → length l ≡ 81 → fits sequence q ≡ true → meant chapter4 m ≡ true
     → lay 81 (10 ∷ []) (layFields (layout (m .code)) (m .values) (lay 7 (m .code) (lay 1 (render sequence q) l))) ≡ lineOf chapter4 q m
-unfolding lineOf meant told knownCode
+unfolding lineOf meant told
 line-laid q m l e n h =
     let known = both h .0 in
     let six : length (render sequence q) ≡ 6 = lawful sequence q n .sized ∙ sequence-wide in
-    let four : length (m .code) ≡ 4 = sound .four (m .code) (unfold knownCode in known) .0 in
+    let four : length (m .code) ≡ 4 = sound .four (m .code) known .0 in
     let a = laid-on (render sequence q) 1 6 (laid-none l e) refl six (omega arith) (omega arith) in
     let b = laid-on (m .code) 7 4 a refl four (omega arith) (omega arith) in
     let c = laid-fields 10 (layout (m .code)) (m .values) b (layout-covers (m .code)) (to≡ (both (both h .1) .0)) (both (both h .1) .1) in

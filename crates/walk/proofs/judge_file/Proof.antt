@@ -1,14 +1,9 @@
 use Rattle.rules.specs.Order.{order}
+use Rattle.walk.proofs.OrderLaws.{order-tabular}
 use Rattle.walk.proofs.CheckLaws.{words-after}
 use borrow.Author.Needs.{needs}
 use Rattle.walk.proofs.judge_file.Statement.{statement}
 use Rattle.walk.proofs.judge_file.Tie as tie
-use Rattle.walk.proofs.judge_file.Reads as reads
-use Rattle.walk.proofs.judge_file.Lts as lts
-use Rattle.walk.proofs.records.walk_records.Reads as walk-records-reads
-use Rattle.walk.proofs.refer_walked.Reads as refer-walked-reads
-use Rattle.walk.proofs.settle.Reads as settle-reads
-use Rattle.walk.proofs.words.clear.Reads as clear-reads
 
 -- src/lib.rt:48:5
 clear-requires : tie.Need-clear-requires
@@ -17,10 +12,11 @@ clear-requires c κs = search needs
 -- src/lib.rt:49:9
 walk-records-requires : tie.Need-walk-records-requires
 unfolding order
-walk-records-requires c κs = search needs
+walk-records-requires c κs = search (order-tabular, needs)
 
 -- src/lib.rt:50:9
 refer-walked-requires : tie.Need-refer-walked-requires
+unfolding order
 refer-walked-requires c κs = search needs
 
 -- src/lib.rt:51:5
@@ -33,7 +29,8 @@ same-length c = search needs
 
 -- src/lib.rt:43:1
 returns : tie.Need-returns
-returns c = search (words-after, needs)
+unfolding order
+returns c = (search needs, search (words-after, needs))
 
 pub judge-file-spec : {M : Type 1} → statement M
 judge-file-spec =

@@ -1,10 +1,8 @@
-use Rattle.walk.proofs.OrderLaws.{look-past, look-unknown, look-in}
+use Rattle.rules.specs.Order.{goto}
+use Rattle.walk.proofs.OrderLaws.{look-past, look-unknown}
 use borrow.Author.Needs.{needs}
 use Rattle.walk.proofs.order.look_up.Statement.{statement}
 use Rattle.walk.proofs.order.look_up.Tie as tie
-use Rattle.walk.proofs.order.look_up.Reads as reads
-use Rattle.walk.proofs.order.look_up.Lts as lts
-use Rattle.kinds.proofs.tables.wide.Reads as wide-reads
 
 -- src/order.rt:38:9
 returns : tie.Need-returns
@@ -32,7 +30,8 @@ wide-requires c κs = search needs
 
 -- src/order.rt:34:1
 returns-3 : tie.Need-returns-3
-returns-3 c = search (look-in, needs)
+unfolding goto
+returns-3 c = search needs
 
 pub look-up-spec : {M : Type 1} → statement M
 look-up-spec =

@@ -2,13 +2,6 @@ use Rattle.walk.proofs.StepLaws.{placed-late, placed-bytes, placed-long
 use borrow.Author.Needs.{needs}
 use Rattle.walk.proofs.records.judge_placed.Statement.{statement}
 use Rattle.walk.proofs.records.judge_placed.Tie as tie
-use Rattle.walk.proofs.records.judge_placed.Reads as reads
-use Rattle.walk.proofs.records.judge_placed.Lts as lts
-use Rattle.columns.proofs.parts.byte_at.Reads as byte-at-reads
-use Rattle.judging.proofs.lines.judge_bytes.Reads as judge-bytes-reads
-use Rattle.judging.proofs.lines.judge_rest.Reads as judge-rest-reads
-use Rattle.walk.proofs.kept.expect.Reads as expect-reads
-use Rattle.walk.proofs.kept.is_foreign.Reads as is-foreign-reads
 
 -- src/records.rt:57:9
 returns : tie.Need-returns
@@ -32,6 +25,10 @@ enum-told c = search needs
 -- src/records.rt:64:9
 returns-3 : tie.Need-returns-3
 returns-3 c = search (placed-code, needs)
+
+-- src/records.rt:66:8
+look-up-requires : tie.Need-look-up-requires
+look-up-requires c κs = search needs
 
 -- src/records.rt:67:9
 returns-4 : tie.Need-returns-4
@@ -59,7 +56,7 @@ expect-requires c κs = search needs
 
 -- src/records.rt:72:5
 judge-rest-requires : tie.Need-judge-rest-requires
-judge-rest-requires c κs = search (placed-long, needs)
+judge-rest-requires c κs = (search (placed-long, needs), search needs)
 
 -- src/records.rt:52:1
 returns-6 : tie.Need-returns-6
@@ -75,6 +72,7 @@ judge-placed-spec =
     returns-2
     enum-told
     returns-3
+    look-up-requires
     returns-4
     byte-at-requires
     byte-at-requires-2

@@ -1,14 +1,7 @@
-use Rattle.walk.proofs.StepLaws.{next-is, step-fault, step-next}
+use Rattle.walk.proofs.StepLaws.{step-fault, step-next}
 use borrow.Author.Needs.{needs}
 use Rattle.walk.proofs.records.step.Statement.{statement}
 use Rattle.walk.proofs.records.step.Tie as tie
-use Rattle.walk.proofs.records.step.Reads as reads
-use Rattle.walk.proofs.records.step.Lts as lts
-use Rattle.columns.proofs.parts.byte_at.Reads as byte-at-reads
-use Rattle.walk.proofs.kept.moved.Reads as moved-reads
-use Rattle.walk.proofs.order.look_up.Reads as look-up-reads
-use Rattle.walk.proofs.records.judge_quickly.Reads as judge-quickly-reads
-use Rattle.walk.proofs.words.leading.Reads as leading-reads
 
 -- src/records.rt:79:9
 look-up-requires : tie.Need-look-up-requires
@@ -16,7 +9,7 @@ look-up-requires c κs = search needs
 
 -- src/records.rt:80:11
 judge-quickly-requires : tie.Need-judge-quickly-requires
-judge-quickly-requires c κs = search (next-is, needs)
+judge-quickly-requires c κs = search needs
 
 -- src/records.rt:81:21
 enum-known-n : tie.Need-enum-known-n

@@ -3,23 +3,16 @@ use borrow.Author.Needs.{needs}
 use native.Mathlib.Omega.{arith}
 use mathlib.Core.Path.{_≡_}
 use lib.ListN.{length}
-use Rattle.walk.proofs.WalkLaws.{Going, go-from, go-fault, go-known, go-few, go-next, go-short, go-good}
+use Rattle.rules.specs.Chapter4.{ordered}
+use Rattle.walk.proofs.WalkLaws.{Going, go-from, go-fault, go-known, go-next, go-short, go-good}
 use Rattle.walk.proofs.records.walk_records.Statement.{statement}
 use Rattle.walk.proofs.records.walk_records.Tie as tie
-use Rattle.walk.proofs.records.walk_records.Reads as reads
-use Rattle.walk.proofs.records.walk_records.Lts as lts
-use Rattle.judging.proofs.codes.kind_at.Reads as kind-at-reads
-use Rattle.reading.proofs.lines.count_begun.Reads as count-begun-reads
-use Rattle.reading.proofs.lines.line.Reads as line-reads
-use Rattle.walk.proofs.records.refused.Reads as refused-reads
-use Rattle.walk.proofs.records.step.Reads as step-reads
-use Rattle.walk.proofs.words.mark_record.Reads as mark-record-reads
 
 abbrev Inv-loop : tie.InvT-loop
-Inv-loop file words₀ rows classes n s₀ counts₀ i₀ words s counts i = (length words ≡ length words₀) × Going file n words s counts i
+Inv-loop file words₀ rows last classes n s₀ counts₀ i₀ words s counts i = (length words ≡ length words₀) × Going (ordered rows last) file n words s counts i
 
 abbrev μ-loop : tie.MeasureT-loop
-μ-loop file words₀ rows classes n s₀ counts₀ i₀ words s counts i = n - i
+μ-loop file words₀ rows last classes n s₀ counts₀ i₀ words s counts i = n - i
 
 -- src/records.rt:98:9
 count-begun-requires : tie.Need-count-begun-requires Inv-loop μ-loop
