@@ -14,7 +14,7 @@ use Rattle.rules.specs.Fields.{Verdict, ok, fault}
 use Rattle.rules.specs.Records.{Meaning, meaning, ofKind, judgeGiven}
 use Rattle.rules.specs.Files.{accept, meanings, verdict}
 use Rattle.rules.specs.Layouts.{layout}
-use Rattle.rules.specs.References.{wordAt, counts}
+use Rattle.rules.specs.References.{ofFirst, hasWord, wordAt, counts}
 use Rattle.rules.specs.Kinds.{*AA*, *10*, *12*, *25*, *27*, *70*, *72*, *80*, *86*}
 use Rattle.rules.specs.Chapter4.{chapter4}
 use Rattle.rules.specs.Calls.{checkAnswer, values, unread, isRead, partWidth, fieldWidth, widthAsked, fieldOffset, fieldOf, writeVerdict, writeOutput}
@@ -156,7 +156,7 @@ abbrev definers : List String
 definers = "      *70*001123" ∷ "      *70*999123" ∷ "      *72*001" ∷ "      *72*999" ∷ "      *80*0001" ∷ "      *80*9999" ∷ []
 
 unfoldable pub wordsAt : List ℕ → List ℕ
-unfolding judged lined wordAt
+unfolding judged lined ofFirst hasWord wordAt
 wordsAt js = let ms = map (λ s. meaning chapter4 (lined s)) definers in map (wordAt ms) js
 
 pub words-at-the-ends :

@@ -1,22 +1,133 @@
--- References, words and counts: the computing forms are what the paper says.
+-- References and words: the computing forms are what the paper says; what they need of a family of numbers is one computed test over the list of families.
 use mathlib.Core.Path.{_≡_, refl, sym, _∙_, ap, ap₂, subst}
 use mathlib.Core.Logic.{_⊎_, inl, inr, _↔_}
-use mathlib.Core.Bool.{Bool, true, false, cond, false≢true}
-use mathlib.Core.List.{List, [], _∷_, _++_, map}
-use Prim.Native.Nat.{ℕ, zero, suc, _+_, _-_, _*_, _≤_, _<_}
+use mathlib.Core.Bool.{Bool, true, false, false≢true}
+use mathlib.Core.List.{List, [], _∷_, map}
+use Prim.Native.Nat.{ℕ, zero, suc, _+_, _-_, _≤_, _<_}
 use native.Mathlib.Omega.{arith}
-use lib.ListN.{length, getD, set, replicate, length-set, length-replicate, getD-replicate}
-use lib.Seq.{getD-set-same, getD-set-other, set-out, ext-getD}
+use lib.ListN.{length, getD}
 use Rattle.rules.specs.Tests.{all, _&_, _≤?_, _=?_}
-use Rattle.rules.specs.Fields.{Check, Verdict, ok, fault, _⨾_, check, isOk, run}
+use Rattle.rules.specs.Fields.{Check, isOk, run}
 use Rattle.rules.specs.Records.{Meaning}
-use Rattle.rules.specs.Files.{Result, accept, refuse, isAccept, inRecord, refer}
-use Rattle.rules.specs.Kinds.{kindOf, *25*, *70*, *72*, *80*}
-use Rattle.rules.specs.References.{isA, numberAt, defines, definerFrom, definer, asked, refChecks, tabulate, wordAt, words, slotOf, mark, filled, tally, counts, blankRecord, Defines, Named, Referred}
+use Rattle.rules.specs.Files.{isAccept, refer}
+use Rattle.rules.specs.Kinds.{*25*, *80*}
+use Rattle.rules.specs.References.{Family, stations, instruments, antennas, families, _∈_, ofFirst, isA, numberAt, defines, definerFrom, definer, asked, namedCheck, refChecks, tabulate, hasWord, wordAt, words, blankRecord, Defines, Named, Referred}
 use Rattle.rules.specs.Chapter4.{chapter4}
-use Rattle.rules.proofs.Truth.{both, and, to≤, of≤, no≤, of>, to≡, of≡, no≡, of≢, is-no, cases, either, not-both, true-and, and-true, below-or-equal}
+use Rattle.rules.proofs.Truth.{both, and, to≤, of≤, no≤, to≡, of≡, no≡, of≢, to-within, of-within, cases, either, not-both, below-or-equal}
 use Rattle.rules.proofs.FieldLaws.{isOk-⨾, isOk-check}
 use Rattle.rules.proofs.FileLaws.{inRecord-accept}
+
+-- ---- the families
+-- what is tested of each holds of any, and the other way round
+module _ (p : Family → Bool) where
+  pub all-in : (Fs : List Family) → all p Fs ≡ true → (F : Family) → F ∈ Fs → p F ≡ true
+  unfolding all _∈_
+  all-in [] h F i = absurd i
+  all-in (G ∷ Fs) h F i = either (λ e. rw e (both h .0)) (all-in Fs (both h .1) F) i
+
+  pub all-of : (Fs : List Family) → ((F : Family) → F ∈ Fs → p F ≡ true) → all p Fs ≡ true
+  unfolding all _∈_
+  all-of [] f = refl
+  all-of (G ∷ Fs) f = and (f G (inl refl)) (all-of Fs (λ F i. f F (inr i)))
+
+  -- a family with p, or none
+  pub one-or-none : (Fs : List Family) → ((F : Family) × (F ∈ Fs) × (p F ≡ true)) ⊎ ((F : Family) → F ∈ Fs → p F ≡ false)
+  unfolding _∈_
+  one-or-none [] = inr (λ F i. absurd i)
+  one-or-none (G ∷ Fs) =
+      cases (p G)
+      (λ a. inl (G, inl refl, a))
+      (λ a. either (λ x. inl (x .0, inr (x .1), x .2)) (λ f. inr (λ F i. either (λ e. rw e a) (f F) i)) (one-or-none Fs))
+
+  -- the first with p, where there is only one, or none
+  module _ (f : Family → ℕ) (d : ℕ) where
+    pub first-is : (Fs : List Family) (F : Family) → F ∈ Fs → p F ≡ true → ((G : Family) → G ∈ Fs → p G ≡ true → G ≡ F) → ofFirst p f d Fs ≡ f F
+    unfolding ofFirst _∈_
+    first-is [] F i h u = absurd i
+    first-is (G ∷ Fs) F i h u =
+        cases (p G)
+        (λ a. rw a (ap f (u G (inl refl) a)))
+        (λ a. rw a (first-is Fs F (either (λ e. absurd (not-both h (rw e a))) (λ j. j) i) h (λ K k. u K (inr k))))
+
+    pub first-none : (Fs : List Family) → ((F : Family) → F ∈ Fs → p F ≡ false) → ofFirst p f d Fs ≡ d
+    unfolding ofFirst _∈_
+    first-none [] n = refl
+    first-none (G ∷ Fs) n = rw (n G (inl refl)) (first-none Fs (λ F i. n F (inr i)))
+
+pub first-same : (p q : Family → Bool) (f g : Family → ℕ) (d : ℕ) (Fs : List Family) → ((F : Family) → F ∈ Fs → p F ≡ q F) → ((F : Family) → F ∈ Fs → q F ≡ true → f F ≡ g F) → ofFirst p f d Fs ≡ ofFirst q g d Fs
+unfolding ofFirst _∈_
+first-same p q f g d [] e h = refl
+first-same p q f g d (F ∷ Fs) e h =
+    rw (e F (inl refl))
+    (cases (q F) (λ a. rw a (h F (inl refl) a)) (λ a. rw a (first-same p q f g d Fs (λ G i. e G (inr i)) (λ G i. h G (inr i)))))
+
+pub stations-in : stations ∈ families
+unfolding _∈_
+stations-in = inl refl
+
+pub instruments-in : instruments ∈ families
+unfolding _∈_
+instruments-in = inr (inl refl)
+
+pub antennas-in : antennas ∈ families
+unfolding _∈_
+antennas-in = inr (inr (inl refl))
+
+-- each has its words in the table, and two that share a kind or a word are one
+unfoldable alike : Family → Family → Bool
+alike F G = F .kind =? G .kind & F .base =? G .base & F .most =? G .most & F .width =? G .width & F .named =? G .named
+
+unfoldable apart : Family → Family → Bool
+apart F G = asked (F .kind =? G .kind) (alike F G) & asked (F .base ≤? G .base + G .most & G .base ≤? F .base + F .most) (alike F G)
+
+families-tabled : all (λ F. F .base + F .most ≤? 11_999 & all (apart F) families) families ≡ true
+unfolding all apart alike asked _=?_ _≤?_ _&_
+families-tabled = refl
+
+alike-is : (F G : Family) → alike F G ≡ true → F ≡ G
+unfolding alike
+alike-is F G h j = record {
+  kind = to≡ (both (both (both (both h .0) .0) .0) .0) j;
+  base = to≡ (both (both (both (both h .0) .0) .0) .1) j;
+  most = to≡ (both (both (both h .0) .0) .1) j;
+  width = to≡ (both (both h .0) .1) j;
+  named = to≡ (both h .1) j;
+}
+
+when-asked : (a b : Bool) → asked a b ≡ true → a ≡ true → b ≡ true
+unfolding asked
+when-asked true b h e = h
+when-asked false b h e = absurd (false≢true e)
+
+if-asked : (a b : Bool) → (a ≡ true → b ≡ true) → asked a b ≡ true
+unfolding asked
+if-asked true b f = f refl
+if-asked false b f = refl
+
+pub word-range : (F : Family) (j : ℕ) → hasWord j F ≡ true → (F .base ≤ j) × (j ≤ F .base + F .most)
+unfolding hasWord
+word-range F j h = to-within h
+
+module _ (F : Family) (i : F ∈ families) where
+  tabled : (F .base + F .most ≤? 11_999 ≡ true) × (all (apart F) families ≡ true)
+  tabled = both (all-in _ families families-tabled F i)
+
+  pub in-table : (j : ℕ) → hasWord j F ≡ true → j < 12_000
+  in-table j h = omega (arith, to≤ (tabled .0), word-range F j h .1)
+
+  module _ (G : Family) (g : G ∈ families) where
+    parted : (asked (F .kind =? G .kind) (alike F G) ≡ true) × (asked (F .base ≤? G .base + G .most & G .base ≤? F .base + F .most) (alike F G) ≡ true)
+    unfolding apart
+    parted = both (all-in (apart F) families (tabled .1) G g)
+
+    pub same-kind : F .kind ≡ G .kind → F ≡ G
+    same-kind e = alike-is F G (when-asked _ _ (parted .0) (of≡ e))
+
+    pub families-apart : (j : ℕ) → hasWord j F ≡ true → hasWord j G ≡ true → F ≡ G
+    families-apart j h k =
+        let x = word-range F j h in
+        let y = word-range G j k in
+        alike-is F G (when-asked _ _ (parted .1) (and (of≤ (omega arith)) (of≤ (omega arith))))
 
 -- ---- the definer of a number
 -- it is 0 exactly when no record defines the number, else the first that does
@@ -101,44 +212,29 @@ module _ (file : List Meaning) where
 -- what is asked of one record
 pub record Asked (file : List Meaning) (r : ℕ) (m : Meaning) : Type 0 where
   pub first-80 : isA *80* m ≡ true → definer *80* (numberAt 11 m) file ≡ r
-  pub station : isA *25* m ≡ true → 1 ≤? definer *80* (numberAt 11 m) file ≡ true
-  pub instrument : isA *25* m ≡ true → 1 ≤? definer *70* (numberAt 28 m) file ≡ true
-  pub antenna : isA *25* m ≡ true → 1 ≤? definer *72* (numberAt 33 m) file ≡ true
+  pub named : isA *25* m ≡ true → (F : Family) → F ∈ families → 1 ≤? definer (F .kind) (numberAt (F .named) m) file ≡ true
 
-when-asked : (a b : Bool) → asked a b ≡ true → a ≡ true → b ≡ true
-unfolding asked
-when-asked true b h e = h
-when-asked false b h e = absurd (false≢true e)
+run-each : (f : Family → Check) (Fs : List Family) → isOk (run (map f Fs)) ≡ all (λ F. f F .test) Fs
+unfolding run isOk all
+run-each f [] = refl
+run-each f (F ∷ Fs) = isOk-⨾ _ _ ∙ ap₂ _&_ (isOk-check (f F .test) (f F .number) (f F .column)) (run-each f Fs)
 
-if-asked : (a b : Bool) → (a ≡ true → b ≡ true) → asked a b ≡ true
-unfolding asked
-if-asked true b f = f refl
-if-asked false b f = refl
-
-run-tests : (file : List Meaning) (r : ℕ) (m : Meaning) → isOk (run (refChecks file r m))
-    ≡ asked (isA *80* m) (definer *80* (numberAt 11 m) file =? r)
-    & (asked (isA *25* m) (1 ≤? definer *80* (numberAt 11 m) file)
-    & (asked (isA *25* m) (1 ≤? definer *70* (numberAt 28 m) file)
-    & asked (isA *25* m) (1 ≤? definer *72* (numberAt 33 m) file)))
+run-tests : (file : List Meaning) (r : ℕ) (m : Meaning) → isOk (run (refChecks file r m)) ≡ asked (isA *80* m) (definer *80* (numberAt 11 m) file =? r) & all (λ F. namedCheck file m F .test) families
 unfolding run refChecks
-run-tests file r m = simp (isOk-⨾, isOk-check) (unfold isOk in rw and-true)
+run-tests file r m = isOk-⨾ _ _ ∙ ap₂ _&_ (isOk-check _ 11 11) (run-each (namedCheck file m) families)
 
 run-asked : (file : List Meaning) (r : ℕ) (m : Meaning) → isOk (run (refChecks file r m)) ≡ true → Asked file r m
 run-asked file r m h =
     let t = both (sym (run-tests file r m) ∙ h) in
-    let u = both (t .1) in
-    let v = both (u .1) in
     record {
       first-80 = λ e. to≡ (when-asked _ _ (t .0) e);
-      station = when-asked _ _ (u .0);
-      instrument = when-asked _ _ (v .0);
-      antenna = when-asked _ _ (v .1);
+      named = λ e F i. when-asked _ _ (all-in (λ G. namedCheck file m G .test) families (t .1) F i) e;
     }
 
 asked-run : (file : List Meaning) (r : ℕ) (m : Meaning) → Asked file r m → isOk (run (refChecks file r m)) ≡ true
 asked-run file r m a =
     run-tests file r m
-    ∙ and (if-asked _ _ (λ e. of≡ (a .first-80 e))) (and (if-asked _ _ (a .station)) (and (if-asked _ _ (a .instrument)) (if-asked _ _ (a .antenna))))
+    ∙ and (if-asked _ _ (λ e. of≡ (a .first-80 e))) (all-of (λ G. namedCheck file m G .test) families (λ F i. if-asked _ _ (λ e. a .named e F i)))
 
 -- "defined by its *80*, and by one only; each *25* names a defined station, instrument and antenna"
 number-is : (ms : List Meaning) (k n i : ℕ) → Defines ms k n i → (isA k (getD ms i blankRecord) ≡ true) × (numberAt 11 (getD ms i blankRecord) ≡ n)
@@ -150,6 +246,7 @@ unfolding Defines defines
 defines-own ms k i h e = (h, and e (of≡ {m = numberAt 11 (getD ms i blankRecord)} refl))
 
 pub references-iff : (ms : List Meaning) → (isAccept (refer chapter4 ms 1 ms) ≡ true) ↔ Referred ms
+unfolding Named
 references-iff ms = (forth, back)
   where
     forth : isAccept (refer chapter4 ms 1 ms) ≡ true → Referred ms
@@ -159,19 +256,13 @@ references-iff ms = (forth, back)
         = λ n i x. let y = number-is ms *80* n i x in subst (λ j. definer *80* j ms ≡ 1 + i) (y .1) (own i (unfold Defines in x .0) .first-80 (y .0)) in
         record {
           one-only = λ n i j x y. omega (arith, the n i x, the n j y);
-          named = λ i k e. record {
-            station = defined-iff *80* _ ms .0 (own i k .station e);
-            instrument = defined-iff *70* _ ms .0 (own i k .instrument e);
-            antenna = defined-iff *72* _ ms .0 (own i k .antenna e);
-          };
+          named = λ i k e F f. defined-iff (F .kind) _ ms .0 (own i k .named e F f);
         }
 
     back : Referred ms → isAccept (refer chapter4 ms 1 ms) ≡ true
     back g = refer-all ms 1 ms (λ i k. asked-run ms (1 + i) (getD ms i blankRecord) record {
       first-80 = λ e. let x = defines-own ms *80* i k e in omega (arith, definer-first *80* _ ms i x (λ j y. eq-le (g .one-only _ i j x y)));
-      station = λ e. defined-iff *80* _ ms .1 (g .named i k e .station);
-      instrument = λ e. defined-iff *70* _ ms .1 (g .named i k e .instrument);
-      antenna = λ e. defined-iff *72* _ ms .1 (g .named i k e .antenna);
+      named = λ e F f. defined-iff (F .kind) _ ms .1 (g .named i k e F f);
     })
       where
         eq-le : {i j : ℕ} → i ≡ j → i ≤ j
@@ -189,7 +280,7 @@ tabulate-at f zero i j h = absurd (omega arith)
 tabulate-at f (suc n) i zero h = ap f (omega arith)
 tabulate-at f (suc n) i (suc j) h = tabulate-at f n (i + 1) j (omega arith) ∙ ap f (omega arith)
 
--- ---- the words, by family
+-- ---- the words
 pub word-at : (ms : List Meaning) (j : ℕ) → j < 12_000 → getD (words ms) j 0 ≡ wordAt ms j
 unfolding words
 word-at ms j h = tabulate-at (wordAt ms) 12_000 0 j h ∙ ap (wordAt ms) (omega arith)
@@ -198,22 +289,13 @@ pub length-words : (ms : List Meaning) → length (words ms) ≡ 12_000
 unfolding words
 length-words ms = length-tabulate (wordAt ms) 12_000 0
 
-pub word-80 : (ms : List Meaning) (n : ℕ) → n ≤ 9_999 → wordAt ms n ≡ definer *80* n ms
+-- for any family, word base + n is the record number of what defines number n
+pub word-in : (ms : List Meaning) (F : Family) → F ∈ families → (n : ℕ) → n ≤ F .most → getD (words ms) (F .base + n) 0 ≡ definer (F .kind) n ms
 unfolding wordAt
-word-80 ms n h = rw (of≤ h)
-
-pub word-70 : (ms : List Meaning) (n : ℕ) → n ≤ 999 → wordAt ms (10_000 + n) ≡ definer *70* n ms
-unfolding wordAt
-word-70 ms n h =
-    let past : 10_000 + n ≤? 9_999 ≡ false = of> (omega arith) in
-    let here : 10_000 + n ≤? 10_999 ≡ true = of≤ (omega arith) in
-    let e : 10_000 + n - 10_000 ≡ n = omega arith in
-    rw (past, here) (ap (λ j. definer *70* j ms) e)
-
-pub word-72 : (ms : List Meaning) (n : ℕ) → n ≤ 999 → wordAt ms (11_000 + n) ≡ definer *72* n ms
-unfolding wordAt
-word-72 ms n h =
-    let past : 11_000 + n ≤? 9_999 ≡ false = of> (omega arith) in
-    let here : 11_000 + n ≤? 10_999 ≡ false = of> (omega arith) in
-    let e : 11_000 + n - 11_000 ≡ n = omega arith in
-    rw (past, here) (ap (λ j. definer *72* j ms) e)
+word-in ms F i n h =
+    word-at ms (F .base + n) (in-table F i (F .base + n) here)
+    ∙ first-is (hasWord (F .base + n)) (λ G. definer (G .kind) (F .base + n - G .base) ms) 0 families F i here (λ G g k. families-apart G g F i (F .base + n) k here)
+    ∙ ap (λ j. definer (F .kind) j ms) (omega arith)
+  where
+    here : hasWord (F .base + n) F ≡ true
+    here = unfold hasWord in of-within (omega arith) (omega arith)

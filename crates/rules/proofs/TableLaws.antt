@@ -1,42 +1,24 @@
 -- The lent table: a pass over the records fills it with the words that the paper says; the families share no word; the counts are those of the records.
 use mathlib.Core.Path.{_≡_, refl, sym, _∙_, ap, ap₂, subst}
-use mathlib.Core.Logic.{_⊎_, inl, inr}
-use mathlib.Core.Bool.{Bool, true, false, cond, false≢true}
-use mathlib.Core.List.{List, [], _∷_, _++_, map}
-use Prim.Native.Nat.{ℕ, zero, suc, _+_, _-_, _*_, _≤_, _<_}
+use mathlib.Core.Bool.{Bool, true, false, cond, not, false≢true}
+use mathlib.Core.List.{List, [], _∷_}
+use Prim.Native.Nat.{ℕ, zero, suc, _+_, _-_, _≤_, _<_}
 use native.Mathlib.Omega.{arith}
-use lib.ListN.{length, getD, set, replicate, length-set, length-replicate, getD-replicate}
-use lib.Seq.{getD-set-same, getD-set-other, set-out, ext-getD}
+use lib.ListN.{length, getD, replicate, length-set, length-replicate, getD-replicate}
+use lib.Seq.{getD-set-same, getD-set-other, ext-getD}
 use lib.IntN.{pos, negsuc}
-use Rattle.rules.specs.Tests.{all, within, _&_, _≤?_, _=?_}
-use Rattle.rules.specs.Items.{Value, gap, missing, num, text, label, Item, blank, number, fits, onNumber}
-use Rattle.rules.specs.Fields.{Field, Entry, given, entriesOf, valueAt, numOf, isFormed, formed}
+use Rattle.rules.specs.Tests.{all, _&_, _=?_}
+use Rattle.rules.specs.Items.{Value, gap, missing, num, text, label, Item, blank, constant, number, height, angle, month, media, word, fits, onNumber}
+use Rattle.rules.specs.Fields.{Field, given, entriesOf, valueAt, numOf, isFormed, formed}
 use Rattle.rules.specs.Records.{Meaning, told, meant}
-use Rattle.rules.specs.Kinds.{kindOf, known, *25*, *70*, *72*, *80*}
-use Rattle.rules.specs.Layouts.{at, tied, station, instrument, antenna, occupation, receiver, aerial, point, kept, layouts, layout}
-use Rattle.rules.specs.References.{isA, numberAt, defines, definerFrom, definer, tabulate, wordAt, words, slotOf, mark, filled, tally, counts, sum}
+use Rattle.rules.specs.Kinds.{kindOf, known, *25*}
+use Rattle.rules.specs.Layouts.{at, tied, station, instrument, antenna, initials, occupation, receiver, aerial, point, kept, layouts, layout}
+use Rattle.rules.specs.References.{Family, families, _∈_, isA, numberAt, defines, definerFrom, definer, tabulate, hasWord, wordAt, words, slotOf, mark, filled, tally, counts, sum}
 use Rattle.rules.specs.Chapter4.{chapter4}
-use Rattle.rules.proofs.Truth.{both, and, to≤, of≤, no≤, of>, to≡, of≡, no≡, of≢, is-no, cases, either, not-both, true-and, to-within, below-or-equal}
-use Rattle.rules.proofs.ReferenceLaws.{length-tabulate, tabulate-at, length-words, word-at, word-80, word-70, word-72}
+use Rattle.rules.proofs.Truth.{both, to≤, to≡, of≡, no≡, of≢, is-no, cases, either, not-both, true-and, to-within, of-within, below-or-equal}
+use Rattle.rules.proofs.ReferenceLaws.{all-in, one-or-none, first-is, first-none, word-range, in-table, same-kind, families-apart, tabulate-at, length-words, word-at}
 
--- ---- numbers of records that can be meant lie in their range
-unfoldable itemAt : ℕ → List Field → Item
-itemAt c [] = blank 0
-itemAt c (f ∷ fs) = cond (f .from =? c) (f .item) (itemAt c fs)
-
-unfoldable hasField : ℕ → List Field → Bool
-hasField c [] = false
-hasField c (f ∷ fs) = cond (f .from =? c) true (hasField c fs)
-
-field-fits : (c : ℕ) (fs : List Field) (vs : List Value) → length vs ≡ length fs → formed (entriesOf fs vs) ≡ true → hasField c fs ≡ true → fits (itemAt c fs) (valueAt c (entriesOf fs vs)) ≡ true
-unfolding itemAt hasField entriesOf valueAt formed all isFormed given
-field-fits c [] vs e h k = absurd (false≢true k)
-field-fits c (f ∷ fs) [] e h k = absurd (omega arith)
-field-fits c (f ∷ fs) (v ∷ vs) e h k =
-    cases (f .from =? c)
-    (λ y. rw y (both h .0))
-    (λ y. rw y (field-fits c fs vs (omega arith) (both h .1) (rw y at k)))
-
+-- ---- numbers of records that can be meant lie in their family's range
 number-range : (w lo hi : ℕ) (v : Value) → fits (number w lo hi false) v ≡ true → (lo ≤ numOf v) × (numOf v ≤ hi)
 unfolding fits onNumber numOf
 number-range w lo hi gap h = absurd (false≢true h)
@@ -46,148 +28,132 @@ number-range w lo hi (num (negsuc n)) h = absurd (false≢true h)
 number-range w lo hi (text t) h = absurd (false≢true h)
 number-range w lo hi (label m d y s t) h = absurd (false≢true h)
 
--- the number at column c of a record of kind k, whose field there is a number from lo to hi
-at-column : (c k w lo hi : ℕ) (m : Meaning) → meant chapter4 m ≡ true → isA k m ≡ true → hasField c (getD layouts k kept) ≡ true → itemAt c (getD layouts k kept) ≡ number w lo hi false
-    → (lo ≤ numberAt c m) × (numberAt c m ≤ hi)
-unfolding numberAt
-at-column c k w lo hi m h e f g =
-    let here : layout (m .code) ≡ getD layouts k kept = unfold layout isA in ap (λ j. getD layouts j kept) (to≡ e) in
-    let own : (length (m .values) =? length (layout (m .code)) ≡ true) × (formed (entriesOf (layout (m .code)) (m .values)) ≡ true) = unfold meant told in both (both h .1) in
-    number-range w lo hi (valueAt c (entriesOf (layout (m .code)) (m .values)))
-    (subst (λ i. fits i (valueAt c (entriesOf (layout (m .code)) (m .values))) ≡ true) (ap (itemAt c) here ∙ g)
-    (field-fits c (layout (m .code)) (m .values) (to≡ (own .0)) (own .1) (subst (λ fs. hasField c fs ≡ true) (sym here) f)))
+-- whether a field is a number of the family, which cannot be missing
+unfoldable pub isNumberOf : Family → Item → Bool
+isNumberOf F (blank w) = false
+isNumberOf F (constant c) = false
+isNumberOf F (number w lo hi may) = w =? F .width & lo =? 1 & hi =? F .most & not may
+isNumberOf F (height w may) = false
+isNumberOf F (angle way) = false
+isNumberOf F month = false
+isNumberOf F media = false
+isNumberOf F (word w test) = false
 
-module _ (m : Meaning) (h : meant chapter4 m ≡ true) where
-  pub station-80 : isA *80* m ≡ true → (1 ≤ numberAt 11 m) × (numberAt 11 m ≤ 9_999)
-  station-80 e = unfold hasField itemAt layouts point at station _=?_ in at-column 11 *80* 4 1 9_999 m h e refl refl
+unfoldable pub hasNumberAt : Family → ℕ → List Field → Bool
+hasNumberAt F c [] = false
+hasNumberAt F c (f ∷ fs) = cond (f .from =? c) (isNumberOf F (f .item)) (hasNumberAt F c fs)
 
-  pub instrument-70 : isA *70* m ≡ true → (1 ≤ numberAt 11 m) × (numberAt 11 m ≤ 999)
-  instrument-70 e = unfold hasField itemAt layouts receiver tied instrument _=?_ in at-column 11 *70* 3 1 999 m h e refl refl
+-- the layouts have one at column 11 of the family's kind, and at the column at which a *25* names it
+families-ranged : all (λ F. hasNumberAt F 11 (getD layouts (F .kind) kept) & hasNumberAt F (F .named) (getD layouts *25* kept)) families ≡ true
+unfolding all hasNumberAt isNumberOf layouts occupation receiver aerial point at tied station instrument antenna initials _=?_ _&_
+families-ranged = refl
 
-  pub antenna-72 : isA *72* m ≡ true → (1 ≤ numberAt 11 m) × (numberAt 11 m ≤ 999)
-  antenna-72 e = unfold hasField itemAt layouts aerial tied antenna _=?_ in at-column 11 *72* 3 1 999 m h e refl refl
+module _ (F : Family) where
+  pub number-is : (i : Item) → isNumberOf F i ≡ true → i ≡ number (F .width) 1 (F .most) false
+  unfolding isNumberOf
+  number-is (blank w) e = absurd (false≢true e)
+  number-is (constant c) e = absurd (false≢true e)
+  number-is (number w lo hi true) e = absurd (false≢true (both e .1))
+  number-is (number w lo hi false) e = rw (to≡ (both (both (both e .0) .0) .0), to≡ (both (both (both e .0) .0) .1), to≡ (both (both e .0) .1))
+  number-is (height w may) e = absurd (false≢true e)
+  number-is (angle way) e = absurd (false≢true e)
+  number-is month e = absurd (false≢true e)
+  number-is media e = absurd (false≢true e)
+  number-is (word w test) e = absurd (false≢true e)
 
-  pub station-25 : isA *25* m ≡ true → (1 ≤ numberAt 11 m) × (numberAt 11 m ≤ 9_999)
-  station-25 e = unfold hasField itemAt layouts occupation at station _=?_ in at-column 11 *25* 4 1 9_999 m h e refl refl
+  field-range : (c : ℕ) (fs : List Field) (vs : List Value) → hasNumberAt F c fs ≡ true → length vs ≡ length fs → formed (entriesOf fs vs) ≡ true
+      → (1 ≤ numOf (valueAt c (entriesOf fs vs))) × (numOf (valueAt c (entriesOf fs vs)) ≤ F .most)
+  unfolding hasNumberAt entriesOf valueAt formed all isFormed given
+  field-range c [] vs k e h = absurd (false≢true k)
+  field-range c (f ∷ fs) [] k e h = absurd (omega arith)
+  field-range c (f ∷ fs) (v ∷ vs) k e h =
+      cases (f .from =? c)
+      (λ y. rw y (number-range (F .width) 1 (F .most) v (rw (number-is (f .item) (rw y at k)) at (both h .0))))
+      (λ y. rw y (field-range c fs vs (rw y at k) (omega arith) (both h .1)))
 
-  pub instrument-25 : isA *25* m ≡ true → (1 ≤ numberAt 28 m) × (numberAt 28 m ≤ 999)
-  instrument-25 e = unfold hasField itemAt layouts occupation at instrument _=?_ in at-column 28 *25* 3 1 999 m h e refl refl
+  -- the number at column c of a record of kind k, whose field there is one of the family
+  at-column : (c k : ℕ) (m : Meaning) → meant chapter4 m ≡ true → isA k m ≡ true → hasNumberAt F c (getD layouts k kept) ≡ true → (1 ≤ numberAt c m) × (numberAt c m ≤ F .most)
+  unfolding numberAt
+  at-column c k m h e f =
+      let here : layout (m .code) ≡ getD layouts k kept = unfold layout isA in ap (λ j. getD layouts j kept) (to≡ e) in
+      let own : (length (m .values) =? length (layout (m .code)) ≡ true) × (formed (entriesOf (layout (m .code)) (m .values)) ≡ true) = unfold meant told in both (both h .1) in
+      field-range c (layout (m .code)) (m .values) (rw here f) (to≡ (own .0)) (own .1)
 
-  pub antenna-25 : isA *25* m ≡ true → (1 ≤ numberAt 33 m) × (numberAt 33 m ≤ 999)
-  antenna-25 e = unfold hasField itemAt layouts occupation at antenna _=?_ in at-column 33 *25* 3 1 999 m h e refl refl
+  module _ (i : F ∈ families) where
+    pub own-field : hasNumberAt F 11 (getD layouts (F .kind) kept) ≡ true
+    own-field = both (all-in _ families families-ranged F i) .0
+
+    pub named-field : hasNumberAt F (F .named) (getD layouts *25* kept) ≡ true
+    named-field = both (all-in _ families families-ranged F i) .1
+
+    module _ (m : Meaning) (h : meant chapter4 m ≡ true) where
+      pub own-range : isA (F .kind) m ≡ true → (1 ≤ numberAt 11 m) × (numberAt 11 m ≤ F .most)
+      own-range e = at-column 11 (F .kind) m h e own-field
+
+      pub named-range : isA *25* m ≡ true → (1 ≤ numberAt (F .named) m) × (numberAt (F .named) m ≤ F .most)
+      named-range e = at-column (F .named) *25* m h e named-field
 
 -- ---- which word a record defines
-kinds-differ : (j k : ℕ) (m : Meaning) → isA k m ≡ true → (k ≡ j → ⊥) → isA j m ≡ false
-unfolding isA
-kinds-differ j k m e d = of≢ (λ z. d (sym (to≡ e) ∙ z))
+slot-of : (F : Family) → F ∈ families → (m : Meaning) → isA (F .kind) m ≡ true → slotOf m ≡ F .base + numberAt 11 m
+unfolding slotOf isA
+slot-of F i m e =
+    first-is (λ G. kindOf (m .code) =? G .kind) (λ G. G .base + numberAt 11 m) 12_000 families F i e (λ G g a. same-kind G g F i (sym (to≡ a) ∙ to≡ e))
 
-module _ (m : Meaning) where
-  slot-80 : isA *80* m ≡ true → slotOf m ≡ numberAt 11 m
-  unfolding slotOf
-  slot-80 e = rw e
+slot-none : (m : Meaning) → ((F : Family) → F ∈ families → isA (F .kind) m ≡ false) → slotOf m ≡ 12_000
+unfolding slotOf
+slot-none m n = first-none (λ F. isA (F .kind) m) (λ F. F .base + numberAt 11 m) 12_000 families n
 
-  slot-70 : isA *70* m ≡ true → slotOf m ≡ 10_000 + numberAt 11 m
-  unfolding slotOf
-  slot-70 e = rw (kinds-differ *80* *70* m e (λ z. omega arith), e)
+module _ (m : Meaning) (h : meant chapter4 m ≡ true) where
+  -- a word of the table that it defines is of its own family
+  slot-in : (j : ℕ) → j < 12_000 → slotOf m ≡ j → (F : Family) × (F ∈ families) × (isA (F .kind) m ≡ true) × (hasWord j F ≡ true)
+  unfolding hasWord
+  slot-in j k z =
+      either
+      (λ x. (x .0, x .1, x .2, of-within (omega (arith, slot-of (x .0) (x .1) m (x .2))) (omega (arith, slot-of (x .0) (x .1) m (x .2), own-range (x .0) (x .1) m h (x .2) .1))))
+      (λ n. absurd (omega (arith, slot-none m n)))
+      (one-or-none (λ F. isA (F .kind) m) families)
 
-  slot-72 : isA *72* m ≡ true → slotOf m ≡ 11_000 + numberAt 11 m
-  unfolding slotOf
-  slot-72 e = rw (kinds-differ *80* *72* m e (λ z. omega arith), kinds-differ *70* *72* m e (λ z. omega arith), e)
-
-  slot-none : isA *80* m ≡ false → isA *70* m ≡ false → isA *72* m ≡ false → slotOf m ≡ 12_000
-  unfolding slotOf
-  slot-none a b c = rw (a, b, c)
-
--- a record that can be meant, by the family of its word
-pub data Family (m : Meaning) : Type 0 where
-  of-80 : isA *80* m ≡ true → slotOf m ≡ numberAt 11 m → 1 ≤ slotOf m → slotOf m ≤ 9_999 → Family m
-  of-70 : isA *70* m ≡ true → slotOf m ≡ 10_000 + numberAt 11 m → 10_001 ≤ slotOf m → slotOf m ≤ 10_999 → Family m
-  of-72 : isA *72* m ≡ true → slotOf m ≡ 11_000 + numberAt 11 m → 11_001 ≤ slotOf m → slotOf m ≤ 11_999 → Family m
-  of-none : isA *80* m ≡ false → isA *70* m ≡ false → isA *72* m ≡ false → slotOf m ≡ 12_000 → Family m
-
-pub family : (m : Meaning) → meant chapter4 m ≡ true → Family m
-family m h =
-    cases (isA *80* m) (λ a. let n = station-80 m h a in of-80 a (slot-80 m a) (omega (arith, slot-80 m a, n .0)) (omega (arith, slot-80 m a, n .1)))
-    (λ a. cases (isA *70* m) (λ b. let n = instrument-70 m h b in of-70 b (slot-70 m b) (omega (arith, slot-70 m b, n .0)) (omega (arith, slot-70 m b, n .1)))
-    (λ b. cases (isA *72* m) (λ c. let n = antenna-72 m h c in of-72 c (slot-72 m c) (omega (arith, slot-72 m c, n .0)) (omega (arith, slot-72 m c, n .1)))
-    (λ c. of-none a b c (slot-none m a b c))))
-
--- no two families share a word
-pub families-apart : (m m′ : Meaning) → Family m → Family m′ → slotOf m ≡ slotOf m′ → slotOf m < 12_000 → kindOf (m .code) ≡ kindOf (m′ .code)
-unfolding isA
-families-apart m m′ (of-80 a b c d) (of-80 a′ b′ c′ d′) e k = to≡ a ∙ sym (to≡ a′)
-families-apart m m′ (of-80 a b c d) (of-70 a′ b′ c′ d′) e k = absurd (omega arith)
-families-apart m m′ (of-80 a b c d) (of-72 a′ b′ c′ d′) e k = absurd (omega arith)
-families-apart m m′ (of-80 a b c d) (of-none a′ b′ c′ d′) e k = absurd (omega arith)
-families-apart m m′ (of-70 a b c d) (of-80 a′ b′ c′ d′) e k = absurd (omega arith)
-families-apart m m′ (of-70 a b c d) (of-70 a′ b′ c′ d′) e k = to≡ a ∙ sym (to≡ a′)
-families-apart m m′ (of-70 a b c d) (of-72 a′ b′ c′ d′) e k = absurd (omega arith)
-families-apart m m′ (of-70 a b c d) (of-none a′ b′ c′ d′) e k = absurd (omega arith)
-families-apart m m′ (of-72 a b c d) (of-80 a′ b′ c′ d′) e k = absurd (omega arith)
-families-apart m m′ (of-72 a b c d) (of-70 a′ b′ c′ d′) e k = absurd (omega arith)
-families-apart m m′ (of-72 a b c d) (of-72 a′ b′ c′ d′) e k = to≡ a ∙ sym (to≡ a′)
-families-apart m m′ (of-72 a b c d) (of-none a′ b′ c′ d′) e k = absurd (omega arith)
-families-apart m m′ (of-none a b c d) y e k = absurd (omega arith)
-
--- whether a record defines word j, by its slot and by its kind and number
-module _ (m : Meaning) (base k j : ℕ) where
-  hits : isA k m ≡ true → slotOf m ≡ base + numberAt 11 m → base ≤ j → slotOf m =? j ≡ defines k (j - base) m
+  -- whether it defines word j, by its slot and by its kind and number
+  hits : (F : Family) → F ∈ families → (j : ℕ) → hasWord j F ≡ true → slotOf m =? j ≡ defines (F .kind) (j - F .base) m
   unfolding defines
-  hits a e h =
-      cases (numberAt 11 m =? j - base)
-      (λ y. rw (a, y, true-and true) (of≡ (omega (arith, to≡ y))))
-      (λ y. rw (a, y, true-and false) (of≢ (λ z. no≡ y (omega arith))))
+  hits F i j w =
+      cases (isA (F .kind) m)
+      (λ a. rw (slot-of F i m a, a, true-and) (same (numberAt 11 m) (word-range F j w .0)))
+      (λ a. rw a (unfold _&_ in of≢ (λ z. not-both (its-own z) a)))
+    where
+      same : (n : ℕ) → F .base ≤ j → F .base + n =? j ≡ n =? j - F .base
+      same n k = cases (n =? j - F .base) (λ y. rw y (of≡ (omega (arith, to≡ y)))) (λ y. rw y (of≢ (λ z. no≡ y (omega arith))))
 
-  misses : isA k m ≡ false → (slotOf m ≡ j → ⊥) → slotOf m =? j ≡ defines k (j - base) m
-  unfolding defines _&_
-  misses a n = rw a (of≢ n)
+      its-own : slotOf m ≡ j → isA (F .kind) m ≡ true
+      its-own z = let x = slot-in j (in-table F i j w) z in subst (λ (G : Family). isA (G .kind) m ≡ true) (families-apart (x .0) (x .1) F i j (x .3) w) (x .2)
+
+  none-hit : (j : ℕ) → j < 12_000 → ((F : Family) → F ∈ families → hasWord j F ≡ false) → slotOf m =? j ≡ false
+  none-hit j k n = of≢ (λ z. let x = slot-in j k z in not-both (x .3) (n (x .0) (x .1)))
 
 -- the word that a record defines, among the records from r on
 unfoldable slotterFrom : ℕ → ℕ → List Meaning → ℕ
 slotterFrom r j [] = 0
 slotterFrom r j (m ∷ ms) = cond (slotOf m =? j) r (slotterFrom (r + 1) j ms)
 
-slotter-is : (base k j r : ℕ) (ms : List Meaning) → ((m : Meaning) → meant chapter4 m ≡ true → slotOf m =? j ≡ defines k (j - base) m) → all (meant chapter4) ms ≡ true
-    → slotterFrom r j ms ≡ definerFrom r k (j - base) ms
+slotter-is : (k n j r : ℕ) (ms : List Meaning) → ((m : Meaning) → meant chapter4 m ≡ true → slotOf m =? j ≡ defines k n m) → all (meant chapter4) ms ≡ true
+    → slotterFrom r j ms ≡ definerFrom r k n ms
 unfolding slotterFrom definerFrom all
-slotter-is base k j r [] f h = refl
-slotter-is base k j r (m ∷ ms) f h = rw (f m (both h .0)) (ap (cond (defines k (j - base) m) r) (slotter-is base k j (r + 1) ms f (both h .1)))
+slotter-is k n j r [] f h = refl
+slotter-is k n j r (m ∷ ms) f h = rw (f m (both h .0)) (ap (cond (defines k n m) r) (slotter-is k n j (r + 1) ms f (both h .1)))
 
-in-80 : (j : ℕ) → j ≤ 9_999 → (m : Meaning) → meant chapter4 m ≡ true → slotOf m =? j ≡ defines *80* (j - 0) m
-in-80 j k m h = by (family m h)
-  where
-    by : Family m → slotOf m =? j ≡ defines *80* (j - 0) m
-    by (of-80 a b c d) = hits m 0 *80* j a (omega arith) (omega arith)
-    by (of-70 a b c d) = misses m 0 *80* j (kinds-differ *80* *70* m a (λ z. omega arith)) (λ z. omega arith)
-    by (of-72 a b c d) = misses m 0 *80* j (kinds-differ *80* *72* m a (λ z. omega arith)) (λ z. omega arith)
-    by (of-none a b c d) = misses m 0 *80* j a (λ z. omega arith)
-
-in-70 : (j : ℕ) → 10_000 ≤ j → j ≤ 10_999 → (m : Meaning) → meant chapter4 m ≡ true → slotOf m =? j ≡ defines *70* (j - 10_000) m
-in-70 j k l m h = by (family m h)
-  where
-    by : Family m → slotOf m =? j ≡ defines *70* (j - 10_000) m
-    by (of-80 a b c d) = misses m 10_000 *70* j (kinds-differ *70* *80* m a (λ z. omega arith)) (λ z. omega arith)
-    by (of-70 a b c d) = hits m 10_000 *70* j a b k
-    by (of-72 a b c d) = misses m 10_000 *70* j (kinds-differ *70* *72* m a (λ z. omega arith)) (λ z. omega arith)
-    by (of-none a b c d) = misses m 10_000 *70* j b (λ z. omega arith)
-
-in-72 : (j : ℕ) → 11_000 ≤ j → j < 12_000 → (m : Meaning) → meant chapter4 m ≡ true → slotOf m =? j ≡ defines *72* (j - 11_000) m
-in-72 j k l m h = by (family m h)
-  where
-    by : Family m → slotOf m =? j ≡ defines *72* (j - 11_000) m
-    by (of-80 a b c d) = misses m 11_000 *72* j (kinds-differ *72* *80* m a (λ z. omega arith)) (λ z. omega arith)
-    by (of-70 a b c d) = misses m 11_000 *72* j (kinds-differ *72* *70* m a (λ z. omega arith)) (λ z. omega arith)
-    by (of-72 a b c d) = hits m 11_000 *72* j a b k
-    by (of-none a b c d) = misses m 11_000 *72* j c (λ z. omega arith)
+slotter-none : (j r : ℕ) (ms : List Meaning) → ((m : Meaning) → meant chapter4 m ≡ true → slotOf m =? j ≡ false) → all (meant chapter4) ms ≡ true → slotterFrom r j ms ≡ 0
+unfolding slotterFrom all
+slotter-none j r [] f h = refl
+slotter-none j r (m ∷ ms) f h = rw (f m (both h .0)) (slotter-none j (r + 1) ms f (both h .1))
 
 slotter-word : (ms : List Meaning) (j : ℕ) → all (meant chapter4) ms ≡ true → j < 12_000 → slotterFrom 1 j ms ≡ wordAt ms j
 unfolding wordAt definer
 slotter-word ms j h l =
-    cases (j ≤? 9_999)
-    (λ a. rw a (slotter-is 0 *80* j 1 ms (in-80 j (to≤ a)) h ∙ ap (λ n. definerFrom 1 *80* n ms) (omega arith)))
-    (λ a. cases (j ≤? 10_999)
-    (λ b. rw (a, b) (slotter-is 10_000 *70* j 1 ms (in-70 j (omega (arith, no≤ a)) (to≤ b)) h))
-    (λ b. rw (a, b) (slotter-is 11_000 *72* j 1 ms (in-72 j (omega (arith, no≤ b)) l) h)))
+    either
+    (λ x. slotter-is (x .0 .kind) (j - x .0 .base) j 1 ms (λ m k. hits m k (x .0) (x .1) j (x .2)) h
+    ∙ sym (first-is (hasWord j) (λ F. definerFrom 1 (F .kind) (j - F .base) ms) 0 families (x .0) (x .1) (x .2) (λ G g w. families-apart G g (x .0) (x .1) j w (x .2))))
+    (λ n. slotter-none j 1 ms (λ m k. none-hit m k j l n) h ∙ sym (first-none (hasWord j) _ 0 families n))
+    (one-or-none (hasWord j) families)
 
 -- ---- a table filled by a pass over the records
 length-mark : (r j : ℕ) (t : List ℕ) → length (mark r j t) ≡ length t

@@ -9,8 +9,8 @@ use lib.IntN.{pos}
 use Rattle.rules.specs.Items.{num, valueOf}
 use Rattle.rules.specs.Records.{Meaning, sequence, codeAt}
 use Rattle.rules.specs.Files.{Result, lines, meanings, accepted, rewritten}
-use Rattle.rules.specs.Kinds.{kindOf, *70*, *72*, *80*}
-use Rattle.rules.specs.References.{definer, words, filled, tally, counts, sum}
+use Rattle.rules.specs.Kinds.{kindOf}
+use Rattle.rules.specs.References.{Family, families, _∈_, definer, words, filled, tally, counts, sum}
 use Rattle.rules.specs.Faults.{FirstOf, HasFault, CallFaults}
 use Rattle.rules.specs.Calls.{outcome}
 use Rattle.rules.specs.Chapter4.{chapter4}
@@ -36,7 +36,5 @@ pub record Demand3 (a b : List ℕ) : Type 0 where
 pub record Tells (f : List ℕ) (ms : List Meaning) : Type 0 where
   pub counted : (k : ℕ) → k < 14 → getD (counts ms) k 0 ≡ tally k ms
   pub none-passed-over : sum (counts ms) ≡ length (lines f)
-  pub station : (n : ℕ) → n ≤ 9_999 → getD (words ms) n 0 ≡ definer *80* n ms
-  pub instrument : (n : ℕ) → n ≤ 999 → getD (words ms) (10_000 + n) 0 ≡ definer *70* n ms
-  pub antenna : (n : ℕ) → n ≤ 999 → getD (words ms) (11_000 + n) 0 ≡ definer *72* n ms
+  pub word : (F : Family) → F ∈ families → (n : ℕ) → n ≤ F .most → getD (words ms) (F .base + n) 0 ≡ definer (F .kind) n ms
   pub as-filled : filled 1 ms (replicate 12_000 0) ≡ words ms

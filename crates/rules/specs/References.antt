@@ -1,16 +1,48 @@
 -- 01, "A station number is defined by its *80*, and by one only; each *25* names a defined station, instrument and antenna",
 -- and "Memory": the words of the lent table.
 use mathlib.Core.Path.{_≡_}
-use mathlib.Core.Bool.{Bool, true, false, cond}
-use mathlib.Core.List.{List, [], _∷_, _++_}
+use mathlib.Core.Logic.{_⊎_}
+use mathlib.Core.Bool.{Bool, true, cond}
+use mathlib.Core.List.{List, [], _∷_, map}
 use Prim.Native.Nat.{ℕ, zero, suc, _+_, _-_, _<_}
 use lib.ListN.{length, getD, set}
-use Rattle.rules.specs.Tests.{_&_, _≤?_, _=?_}
+use Rattle.rules.specs.Tests.{_&_, _≤?_, _=?_, within}
 use Rattle.rules.specs.Fields.{Check, valueAt, entriesOf, numOf}
 use Rattle.rules.specs.Records.{Meaning}
 use Rattle.rules.specs.Kinds.{kindOf, *25*, *70*, *72*, *80*}
 use Rattle.rules.specs.Layouts.{layout}
 
+-- ---- a family of numbers: 01's stations, instruments and antennas
+pub record Family : Type 0 where
+  pub kind : ℕ  -- of the records that define its numbers, each at column 11
+  pub base : ℕ  -- the word of number 0
+  pub most : ℕ  -- the greatest number; the least is 1
+  pub width : ℕ  -- the columns of a number
+  pub named : ℕ  -- the column at which a *25* names one
+
+abbrev pub stations : Family
+stations = record { kind = *80*; base = 0; most = 9_999; width = 4; named = 11 }
+
+abbrev pub instruments : Family
+instruments = record { kind = *70*; base = 10_000; most = 999; width = 3; named = 28 }
+
+abbrev pub antennas : Family
+antennas = record { kind = *72*; base = 11_000; most = 999; width = 3; named = 33 }
+
+abbrev pub families : List Family
+families = stations ∷ instruments ∷ antennas ∷ []
+
+infix 30 _∈_
+unfoldable pub _∈_ : Family → List Family → Type 0
+F ∈ [] = ⊥
+F ∈ (G ∷ Fs) = (F ≡ G) ⊎ (F ∈ Fs)
+
+-- what f says of the first family with p, d where there is none
+unfoldable pub ofFirst : (Family → Bool) → (Family → ℕ) → ℕ → List Family → ℕ
+ofFirst p f d [] = d
+ofFirst p f d (F ∷ Fs) = cond (p F) (f F) (ofFirst p f d Fs)
+
+-- ---- the numbers of records
 unfoldable pub isA : ℕ → Meaning → Bool
 isA k m = kindOf (m .code) =? k
 
@@ -34,14 +66,15 @@ definer k n ms = definerFrom 1 k n ms
 unfoldable pub asked : Bool → Bool → Bool
 asked a b = cond a b true
 
--- 11: an *80* is the first with its number; 12: a *25* names numbers that some *80*, *70*, *72* of the whole file defines
+-- 12: a *25* names a number of the family that some record of the whole file defines
+abbrev pub namedCheck : List Meaning → Meaning → Family → Check
+namedCheck file m F = record { test = asked (isA *25* m) (1 ≤? definer (F .kind) (numberAt (F .named) m) file); number = 12; column = F .named }
+
+-- 11: an *80* is the first with its number; 12: a *25* names a defined station, instrument and antenna
 unfoldable pub refChecks : List Meaning → ℕ → Meaning → List Check
 refChecks file r m =
     record { test = asked (isA *80* m) (definer *80* (numberAt 11 m) file =? r); number = 11; column = 11 }
-    ∷ record { test = asked (isA *25* m) (1 ≤? definer *80* (numberAt 11 m) file); number = 12; column = 11 }
-    ∷ record { test = asked (isA *25* m) (1 ≤? definer *70* (numberAt 28 m) file); number = 12; column = 28 }
-    ∷ record { test = asked (isA *25* m) (1 ≤? definer *72* (numberAt 33 m) file); number = 12; column = 33 }
-    ∷ []
+    ∷ map (namedCheck file m) families
 
 -- ---- the list of f i, f (i + 1), ..: n places
 unfoldable pub tabulate : (ℕ → ℕ) → ℕ → ℕ → List ℕ
@@ -49,8 +82,11 @@ tabulate f zero i = []
 tabulate f (suc n) i = f i ∷ tabulate f n (i + 1)
 
 -- word n is the record number of station n's *80*, word 10,000 + n of instrument n's *70*, word 11,000 + n of antenna n's *72*
+unfoldable pub hasWord : ℕ → Family → Bool
+hasWord j F = within (F .base) (F .base + F .most) j
+
 unfoldable pub wordAt : List Meaning → ℕ → ℕ
-wordAt ms j = cond (j ≤? 9_999) (definer *80* j ms) (cond (j ≤? 10_999) (definer *70* (j - 10_000) ms) (definer *72* (j - 11_000) ms))
+wordAt ms j = ofFirst (hasWord j) (λ F. definer (F .kind) (j - F .base) ms) 0 families
 
 unfoldable pub words : List Meaning → List ℕ
 words ms = tabulate (wordAt ms) 12_000 0
@@ -58,8 +94,7 @@ words ms = tabulate (wordAt ms) 12_000 0
 -- the same as a pass over the records fills it: each record that defines a number puts its own into a word that is still 0
 -- the word that a record defines, 12,000 where it defines none
 unfoldable pub slotOf : Meaning → ℕ
-slotOf m =
-    cond (isA *80* m) (numberAt 11 m) (cond (isA *70* m) (10_000 + numberAt 11 m) (cond (isA *72* m) (11_000 + numberAt 11 m) 12_000))
+slotOf m = ofFirst (λ F. isA (F .kind) m) (λ F. F .base + numberAt 11 m) 12_000 families
 
 unfoldable pub mark : ℕ → ℕ → List ℕ → List ℕ
 mark r j table = cond (getD table j 0 =? 0) (set table j r) table
@@ -88,11 +123,10 @@ blankRecord = record { code = []; values = [] }
 unfoldable pub Defines : List Meaning → ℕ → ℕ → ℕ → Type 0
 Defines ms k n i = (i < length ms) × (defines k n (getD ms i blankRecord) ≡ true)
 
-pub record Named (ms : List Meaning) (m : Meaning) : Type 0 where
-  pub station : (i : ℕ) × Defines ms *80* (numberAt 11 m) i
-  pub instrument : (i : ℕ) × Defines ms *70* (numberAt 28 m) i
-  pub antenna : (i : ℕ) × Defines ms *72* (numberAt 33 m) i
+-- a record names a number of the family that some record defines
+unfoldable pub Named : List Meaning → Meaning → Family → Type 0
+Named ms m F = (i : ℕ) × Defines ms (F .kind) (numberAt (F .named) m) i
 
 pub record Referred (ms : List Meaning) : Type 0 where
   pub one-only : (n i j : ℕ) → Defines ms *80* n i → Defines ms *80* n j → i ≡ j
-  pub named : (i : ℕ) → i < length ms → isA *25* (getD ms i blankRecord) ≡ true → Named ms (getD ms i blankRecord)
+  pub named : (i : ℕ) → i < length ms → isA *25* (getD ms i blankRecord) ≡ true → (F : Family) → F ∈ families → Named ms (getD ms i blankRecord) F

@@ -1,24 +1,25 @@
 -- The numbers that the code reads from the columns are those of the record's meaning, and the word that it defines is its own.
-use mathlib.Core.Path.{_≡_, refl, sym, _∙_, ap, ap₂, subst}
-use mathlib.Core.Bool.{Bool, true, false, cond}
-use mathlib.Core.List.{List, [], _∷_, map}
-use Prim.Native.Nat.{ℕ, zero, suc, _+_, _-_, _≤_, _<_}
-use native.Mathlib.Omega.{arith}
-use lib.ListN.{length, take, drop, getD}
-use lib.IntN.{pos}
-use Rattle.rules.specs.Tests.{all, _&_, _≤?_, _=?_}
+use mathlib.Core.Path.{_≡_, sym, _∙_, ap}
+use mathlib.Core.Bool.{Bool, true, false, false≢true}
+use mathlib.Core.List.{List, [], _∷_}
+use Prim.Native.Nat.{ℕ, _+_}
+use lib.ListN.{getD}
+use Rattle.rules.specs.Tests.{all, _=?_}
 use Rattle.rules.specs.Characters.{isBlank}
 use Rattle.rules.specs.Items.{number, valueOf, width}
-use Rattle.rules.specs.Fields.{given, entriesOf, values, valueAt, columnsOf, numOf}
+use Rattle.rules.specs.Fields.{Field, given, entriesOf, values, valueAt, columnsOf, numOf}
 use Rattle.rules.specs.Records.{codeAt, meaning}
-use Rattle.rules.specs.Kinds.{kindOf, *25*, *70*, *72*, *80*}
-use Rattle.rules.specs.Layouts.{at, tied, station, instrument, antenna, initials, occupation, receiver, aerial, point, kept, layouts, layout}
-use Rattle.rules.specs.References.{isA, numberAt, slotOf}
+use Rattle.rules.specs.Kinds.{kindOf, *25*}
+use Rattle.rules.specs.Layouts.{kept, layouts, layout}
+use Rattle.rules.specs.References.{Family, stations, families, _∈_, isA, numberAt, slotOf}
 use Rattle.rules.specs.Chapter4.{chapter4}
-use Rattle.rules.proofs.Truth.{to≡, of≡, of≢, no≡, cases}
+use Rattle.rules.proofs.Truth.{to≡, cases}
+use Rattle.rules.proofs.ReferenceLaws.{stations-in, first-same}
+use Rattle.rules.proofs.TableLaws.{hasNumberAt, number-is, own-field, named-field}
 use Rattle.columns.specs.Types.{natOf}
 use Rattle.reading.specs.Values.{natIn}
-use Rattle.walk.specs.Words.{leadIn, slotIn}
+use Rattle.walk.specs.Words.{leadWidth, leadIn, slotIn}
+use Rattle.walk.proofs.WordLaws.{lead-width}
 
 -- a number that is missing counts as 0 on both sides
 same-number : (w lo hi : ℕ) (may : Bool) (bs : List ℕ) → numOf (valueOf (number w lo hi may) bs) ≡ natOf (valueOf (number 0 0 0 true) bs)
@@ -26,51 +27,39 @@ unfolding valueOf numOf natOf
 same-number w lo hi may bs = cases (all isBlank bs) (λ e. rw e) (λ e. rw e)
 
 module _ (l : List ℕ) where
+  -- a field of a family's numbers, by the columns at which it starts
+  field-number : (F : Family) (c : ℕ) (fs : List Field) → hasNumberAt F c fs ≡ true → numOf (valueAt c (entriesOf fs (values fs l))) ≡ natIn c (F .width) l
+  unfolding hasNumberAt valueAt entriesOf given values
+  field-number F c [] h = absurd (false≢true h)
+  field-number F c (f ∷ fs) h =
+      cases (f .from =? c)
+      (λ y. rw y (own (number-is F (f .item) (rw y at h)) (to≡ y)))
+      (λ y. rw y (field-number F c fs (rw y at h)))
+    where
+      own : f .item ≡ number (F .width) 1 (F .most) false → f .from ≡ c → numOf (valueOf (f .item) (columnsOf f l)) ≡ natIn c (F .width) l
+      own e z = unfold columnsOf natIn width in rw (e, z) (same-number (F .width) 1 (F .most) false _)
+
   at-kind : (c k : ℕ) → kindOf (codeAt l) ≡ k → numberAt c (meaning chapter4 l) ≡ numOf (valueAt c (entriesOf (getD layouts k kept) (values (getD layouts k kept) l)))
   unfolding numberAt meaning layout
   at-kind c k e = rw e
 
-  pub station-25 : kindOf (codeAt l) ≡ *25* → numberAt 11 (meaning chapter4 l) ≡ natIn 11 4 l
-  unfolding natIn layouts occupation at station valueAt entriesOf given values columnsOf width _=?_
-  station-25 e = at-kind 11 *25* e ∙ same-number 4 1 9_999 false (take 4 (drop 10 l))
+  -- the number that a record of the family's kind defines, and the number that a *25* names
+  module _ (F : Family) (i : F ∈ families) where
+    pub own-number : kindOf (codeAt l) ≡ F .kind → numberAt 11 (meaning chapter4 l) ≡ natIn 11 (F .width) l
+    own-number e = at-kind 11 (F .kind) e ∙ field-number F 11 (getD layouts (F .kind) kept) (own-field F i)
 
-  pub instrument-25 : kindOf (codeAt l) ≡ *25* → numberAt 28 (meaning chapter4 l) ≡ natIn 28 3 l
-  unfolding natIn layouts occupation at station instrument initials valueAt entriesOf given values columnsOf width _=?_
-  instrument-25 e = at-kind 28 *25* e ∙ same-number 3 1 999 false (take 3 (drop 27 l))
-
-  pub antenna-25 : kindOf (codeAt l) ≡ *25* → numberAt 33 (meaning chapter4 l) ≡ natIn 33 3 l
-  unfolding natIn layouts occupation at station instrument antenna initials valueAt entriesOf given values columnsOf width _=?_
-  antenna-25 e = at-kind 33 *25* e ∙ same-number 3 1 999 false (take 3 (drop 32 l))
-
-  pub instrument-70 : kindOf (codeAt l) ≡ *70* → numberAt 11 (meaning chapter4 l) ≡ natIn 11 3 l
-  unfolding natIn layouts receiver tied instrument valueAt entriesOf given values columnsOf width _=?_
-  instrument-70 e = at-kind 11 *70* e ∙ same-number 3 1 999 false (take 3 (drop 10 l))
-
-  pub antenna-72 : kindOf (codeAt l) ≡ *72* → numberAt 11 (meaning chapter4 l) ≡ natIn 11 3 l
-  unfolding natIn layouts aerial tied antenna valueAt entriesOf given values columnsOf width _=?_
-  antenna-72 e = at-kind 11 *72* e ∙ same-number 3 1 999 false (take 3 (drop 10 l))
-
-  pub station-80 : kindOf (codeAt l) ≡ *80* → numberAt 11 (meaning chapter4 l) ≡ natIn 11 4 l
-  unfolding natIn layouts point at station valueAt entriesOf given values columnsOf width _=?_
-  station-80 e = at-kind 11 *80* e ∙ same-number 4 1 9_999 false (take 4 (drop 10 l))
+    pub named-number : kindOf (codeAt l) ≡ *25* → numberAt (F .named) (meaning chapter4 l) ≡ natIn (F .named) (F .width) l
+    named-number e = at-kind (F .named) *25* e ∙ field-number F (F .named) (getD layouts *25* kept) (named-field F i)
 
   -- ---- the number that is kept, and the word
   module _ (k : ℕ) (e : k ≡ kindOf (codeAt l)) where
     pub lead-of-25 : k =? *25* ≡ true → leadIn k l ≡ numberAt 11 (meaning chapter4 l)
-    unfolding leadIn _=?_
-    lead-of-25 h = let z = to≡ {m = k} {n = *25*} h in rw z (sym (station-25 (sym e ∙ z)))
+    unfolding leadIn leadWidth _=?_
+    lead-of-25 h = let z = to≡ {m = k} {n = *25*} h in rw z (sym (named-number stations stations-in (sym e ∙ z)))
 
-    pub lead-of-70 : k =? *70* ≡ true → leadIn k l ≡ numberAt 11 (meaning chapter4 l)
-    unfolding leadIn _=?_
-    lead-of-70 h = let z = to≡ {m = k} {n = *70*} h in rw z (sym (instrument-70 (sym e ∙ z)))
-
-    pub lead-of-72 : k =? *72* ≡ true → leadIn k l ≡ numberAt 11 (meaning chapter4 l)
-    unfolding leadIn _=?_
-    lead-of-72 h = let z = to≡ {m = k} {n = *72*} h in rw z (sym (antenna-72 (sym e ∙ z)))
-
-    pub lead-of-80 : k =? *80* ≡ true → leadIn k l ≡ numberAt 11 (meaning chapter4 l)
-    unfolding leadIn _=?_
-    lead-of-80 h = let z = to≡ {m = k} {n = *80*} h in rw z (sym (station-80 (sym e ∙ z)))
+    pub lead-of : (F : Family) → F ∈ families → k =? F .kind ≡ true → leadIn k l ≡ numberAt 11 (meaning chapter4 l)
+    unfolding leadIn
+    lead-of F i h = let z = to≡ {m = k} {n = F .kind} h in rw (z, lead-width F i) (sym (own-number F i (sym e ∙ z)))
 
     pub its-kind : (j : ℕ) → isA j (meaning chapter4 l) ≡ k =? j
     unfolding isA meaning
@@ -78,11 +67,4 @@ module _ (l : List ℕ) where
 
     pub its-slot : slotOf (meaning chapter4 l) ≡ slotIn k (leadIn k l)
     unfolding slotOf slotIn
-    its-slot =
-        rw (its-kind *80*, its-kind *70*, its-kind *72*)
-        (cases (k =? *80*)
-        (λ a. rw (a, other *80* *70* a (λ z. omega arith), other *80* *72* a (λ z. omega arith)) (sym (lead-of-80 a)))
-        (λ a. cases (k =? *70*) (λ b. rw (a, b) (ap (λ n. 10_000 + n) (sym (lead-of-70 b)))) (λ b. cases (k =? *72*) (λ c. rw (a, b, c) (ap (λ n. 11_000 + n) (sym (lead-of-72 c)))) (λ c. rw (a, b, c)))))
-      where
-        other : (j i : ℕ) → k =? j ≡ true → (j ≡ i → ⊥) → k =? i ≡ false
-        other j i a d = of≢ (λ z. d (sym (to≡ a) ∙ z))
+    its-slot = first-same _ _ _ _ 12_000 families (λ F i. its-kind (F .kind)) (λ F i h. ap (λ n. F .base + n) (sym (lead-of F i h)))

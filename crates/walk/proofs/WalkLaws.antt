@@ -12,7 +12,7 @@ use Rattle.rules.specs.Records.{Meaning, Edition, codeAt, entries, numbered, ju
 use Rattle.rules.specs.Kinds.{kindOf, known, *25*, *70*, *72*, *80*}
 use Rattle.rules.specs.Order.{nothing, goto}
 use Rattle.rules.specs.Files.{Result, accept, refuse, isAccept, inRecord, lineAt, begun, linesFrom, lines, meanings, walk}
-use Rattle.rules.specs.References.{isA, numberAt, mark, slotOf, filled, tally, counts}
+use Rattle.rules.specs.References.{stations, instruments, antennas, isA, numberAt, mark, slotOf, filled, tally, counts}
 use Rattle.rules.specs.Calls.{answer}
 use Rattle.rules.specs.Chapter4.{Past, atStart, mayStand, latest, after, ordered, chapter4}
 use Rattle.rules.proofs.Truth.{both, and, to≤, to≡, of≡, no≡, of≢, cases}
@@ -20,7 +20,7 @@ use Rattle.rules.proofs.FieldLaws.{isOk-⨾, isOk-check}
 use Rattle.rules.proofs.RecordLaws.{judgeLine-splits}
 use Rattle.rules.proofs.FileLaws.{lines-more, lines-none}
 use Rattle.rules.proofs.TableLaws.{count-at}
-use Rattle.rules.proofs.ReferenceLaws.{length-tabulate}
+use Rattle.rules.proofs.ReferenceLaws.{stations-in, instruments-in, antennas-in, length-tabulate}
 use Rattle.kinds.specs.declared.Checked.{Checked}
 use Rattle.kinds.specs.Values.{checkedOf}
 use Rattle.walk.specs.declared.kept.Kept.{Kept}
@@ -31,7 +31,7 @@ use Rattle.walk.specs.Words.{noWords, leadIn, slotIn}
 use Rattle.walk.specs.Walking.{refusal, judgeAt, stepped, stepOf, Walked}
 use Rattle.walk.proofs.KeptLaws.{spelled}
 use Rattle.walk.proofs.WordLaws.{length-none}
-use Rattle.walk.proofs.NumberLaws.{lead-of-25, lead-of-70, lead-of-72, lead-of-80, its-kind, its-slot}
+use Rattle.walk.proofs.NumberLaws.{lead-of-25, lead-of, its-kind, its-slot}
 
 -- ---- what is kept after a good record is what the rules keep
 module _ (rows : List (List ℕ)) (last : ℕ) (s : Kept) (l : List ℕ) (good : isOk (judgeLine (ordered rows last) (pastOf s) l) ≡ true) where
@@ -66,9 +66,9 @@ module _ (rows : List (List ℕ)) (last : ℕ) (s : Kept) (l : List ℕ) (good :
       place = goto rows (s .place) (e j);
       job = its-job j;
       group = its-group j;
-      point = its-latest *80* (s .point) (lead-of-80 l k e) j;
-      instrument = its-latest *70* (s .instrument) (lead-of-70 l k e) j;
-      antenna = its-latest *72* (s .antenna) (lead-of-72 l k e) j;
+      point = its-latest *80* (s .point) (lead-of l k e stations stations-in) j;
+      instrument = its-latest *70* (s .instrument) (lead-of l k e instruments instruments-in) j;
+      antenna = its-latest *72* (s .antenna) (lead-of l k e antennas antennas-in) j;
     }
 
 -- ---- what an answer of a step tells

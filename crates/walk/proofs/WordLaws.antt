@@ -1,56 +1,54 @@
 -- The lent table: one law for each way through the functions.
-use mathlib.Core.Path.{_≡_, refl, sym, _∙_, ap, ap₂, subst}
+use mathlib.Core.Path.{_≡_, refl, sym, _∙_}
 use mathlib.Core.Bool.{Bool, true, false, cond}
-use mathlib.Core.List.{List, [], _∷_, _++_, append-nil}
-use Prim.Native.Nat.{ℕ, zero, suc, _+_, _-_, _≤_, _<_}
+use mathlib.Core.List.{List, _++_, append-nil}
+use Prim.Native.Nat.{ℕ, _+_, _≤_, _<_}
 use native.Mathlib.Omega.{arith}
 use lib.ListN.{length, drop, getD, set, replicate, length-replicate, drop-of-length-le}
 use lib.Seq.{set-out}
 use borrow.Author.Fill.{fill-more}
-use Rattle.rules.specs.Tests.{_=?_}
-use Rattle.rules.specs.References.{mark}
-use Rattle.rules.proofs.Truth.{of≡, of≢}
+use Rattle.rules.specs.Tests.{all, _&_, _=?_}
+use Rattle.rules.specs.Items.{valueOf}
+use Rattle.rules.specs.Kinds.{*25*, *70*, *72*, *80*}
+use Rattle.rules.specs.References.{Family, stations, families, _∈_, ofFirst, mark}
+use Rattle.rules.proofs.Truth.{to≡, of≡, of≢}
+use Rattle.rules.proofs.ReferenceLaws.{all-in, first-is, stations-in, same-kind}
+use Rattle.columns.specs.Types.{natOf}
 use Rattle.reading.specs.Values.{natIn}
-use Rattle.walk.specs.Words.{noWords, leadIn, slotIn}
+use Rattle.walk.specs.Words.{noWords, leadWidth, leadIn, slotIn}
 use Rattle.walk.proofs.OrderLaws.{getD-past}
 
-module _ (k : ℕ) (l : List ℕ) (n : ℕ) where
-  pub lead-25 : k ≡ 4 → n ≡ natIn 11 4 l → n ≡ leadIn k l
-  unfolding leadIn _=?_
-  lead-25 e q = rw e q
+-- the families' numbers at column 11, and their words
+leads : all (λ F. leadWidth (F .kind) =? F .width) families ≡ true
+unfolding all leadWidth ofFirst _=?_ _&_
+leads = refl
 
-  pub lead-70 : k ≡ 7 → n ≡ natIn 11 3 l → n ≡ leadIn k l
-  unfolding leadIn _=?_
-  lead-70 e q = rw e q
+pub lead-width : (F : Family) → F ∈ families → leadWidth (F .kind) ≡ F .width
+lead-width F i = to≡ (all-in (λ G. leadWidth (G .kind) =? G .width) families leads F i)
 
-  pub lead-72 : k ≡ 8 → n ≡ natIn 11 3 l → n ≡ leadIn k l
-  unfolding leadIn _=?_
-  lead-72 e q = rw e q
+pub lead-25 : (k : ℕ) (l : List ℕ) (n : ℕ) → k ≡ *25* → n ≡ natIn 11 4 l → n ≡ leadIn k l
+unfolding leadIn leadWidth _=?_
+lead-25 k l n e q = rw e q
 
-  pub lead-80 : k ≡ 9 → n ≡ natIn 11 4 l → n ≡ leadIn k l
-  unfolding leadIn _=?_
-  lead-80 e q = rw e q
-
-pub lead-none : (k : ℕ) (l : List ℕ) → (k ≡ 4 → ⊥) → (k ≡ 7 → ⊥) → (k ≡ 8 → ⊥) → (k ≡ 9 → ⊥) → 0 ≡ leadIn k l
-unfolding leadIn
+pub lead-none : (k : ℕ) (l : List ℕ) → (k ≡ *25* → ⊥) → (k ≡ *70* → ⊥) → (k ≡ *72* → ⊥) → (k ≡ *80* → ⊥) → 0 ≡ leadIn k l
+unfolding leadIn leadWidth ofFirst natIn valueOf natOf all
 lead-none k l a b c d = rw (of≢ a, of≢ b, of≢ c, of≢ d)
 
-module _ (k n : ℕ) where
-  pub slot-70 : k ≡ 7 → 10_000 + n ≡ slotIn k n
-  unfolding slotIn _=?_
-  slot-70 e = rw e
+module _ (F : Family) (i : F ∈ families) (k n : ℕ) where
+  pub lead-family : (l : List ℕ) → k ≡ F .kind → n ≡ natIn 11 (F .width) l → n ≡ leadIn k l
+  unfolding leadIn
+  lead-family l e q = q ∙ rw (e, lead-width F i)
 
-  pub slot-72 : k ≡ 8 → 11_000 + n ≡ slotIn k n
-  unfolding slotIn _=?_
-  slot-72 e = rw e
-
-  pub slot-80 : k ≡ 9 → n ≡ slotIn k n
-  unfolding slotIn _=?_
-  slot-80 e = rw e
-
-  pub slot-none : (k ≡ 7 → ⊥) → (k ≡ 8 → ⊥) → (k ≡ 9 → ⊥) → 12_000 ≡ slotIn k n
+  pub slot-family : k ≡ F .kind → F .base + n ≡ slotIn k n
   unfolding slotIn
-  slot-none a b c = rw (of≢ a, of≢ b, of≢ c)
+  slot-family e = sym (first-is (λ G. k =? G .kind) (λ G. G .base + n) 12_000 families F i (of≡ e) (λ G g a. same-kind G g F i (sym (to≡ a) ∙ e)))
+
+pub slot-station : (k n : ℕ) → k ≡ *80* → n ≡ slotIn k n
+slot-station k n e = omega (arith, slot-family stations stations-in k n e)
+
+pub slot-none : (k n : ℕ) → (k ≡ *70* → ⊥) → (k ≡ *72* → ⊥) → (k ≡ *80* → ⊥) → 12_000 ≡ slotIn k n
+unfolding slotIn ofFirst
+slot-none k n a b c = rw (of≢ a, of≢ b, of≢ c)
 
 -- the first to come keeps the word
 module _ (r i : ℕ) (t : List ℕ) where

@@ -1,30 +1,35 @@
 -- 11 and 12 by the words of the table and the columns of a line.
 use mathlib.Core.Path.{_≡_}
-use mathlib.Core.Bool.{true, cond}
-use mathlib.Core.List.{List}
-use Prim.Native.Nat.{ℕ, _+_}
+use mathlib.Core.Bool.{Bool, true, cond, not}
+use mathlib.Core.List.{List, map}
+use Prim.Native.Nat.{ℕ}
 use lib.ListN.{getD}
-use Rattle.rules.specs.Tests.{_≤?_, _=?_}
-use Rattle.rules.specs.Fields.{Verdict, ok, check, _⨾_}
+use Rattle.rules.specs.Tests.{_=?_}
+use Rattle.rules.specs.Fields.{Verdict, ok, check, Check, run}
 use Rattle.rules.specs.Kinds.{*25*, *80*}
 use Rattle.rules.specs.Files.{accept, lines, meanings, refer, formedLines}
-use Rattle.rules.specs.References.{words}
+use Rattle.rules.specs.References.{Family, families, words}
 use Rattle.rules.specs.Calls.{answer}
 use Rattle.rules.specs.Chapter4.{chapter4}
 use Rattle.kinds.specs.declared.Checked.{Checked}
 use Rattle.kinds.specs.Values.{checkedOf}
 use Rattle.reading.specs.Values.{natIn}
+use Rattle.walk.specs.Words.{slotIn}
 
 -- 11: the word of its station is the record itself
 unfoldable pub firstIn : List ℕ → ℕ → List ℕ → Verdict
-firstIn t r l = check (getD t (natIn 11 4 l) 0 =? r) 11 11
+firstIn t r l = check (getD t (slotIn *80* (natIn 11 4 l)) 0 =? r) 11 11
 
--- 12: the words of what it names are not 0
+-- the word of a number that records of kind k define is 0
+unfoldable pub undefinedIn : List ℕ → ℕ → ℕ → Bool
+undefinedIn t k n = getD t (slotIn k n) 0 =? 0
+
+-- 12: the words of what a *25* names are not 0
+abbrev pub wordCheck : List ℕ → List ℕ → Family → Check
+wordCheck t l F = record { test = not (undefinedIn t (F .kind) (natIn (F .named) (F .width) l)); number = 12; column = F .named }
+
 unfoldable pub namedIn : List ℕ → List ℕ → Verdict
-namedIn t l =
-    check (1 ≤? getD t (natIn 11 4 l) 0) 12 11
-    ⨾ check (1 ≤? getD t (10_000 + natIn 28 3 l) 0) 12 28
-    ⨾ check (1 ≤? getD t (11_000 + natIn 33 3 l) 0) 12 33
+namedIn t l = run (map (wordCheck t l) families)
 
 unfoldable pub refIn : List ℕ → ℕ → ℕ → List ℕ → Verdict
 refIn t r k l = cond (k =? *80*) (firstIn t r l) (cond (k =? *25*) (namedIn t l) ok)

@@ -1,5 +1,6 @@
 // 11 and 12: what the records say of each other, by the words of the table.
 use crate::records::refused;
+use crate::words::slot;
 use crate::words::word_at;
 use judging::codes::kind_at;
 use kinds::Checked;
@@ -11,7 +12,7 @@ use reading::lines::line;
 use reading::values::number_in;
 ghost use mathlib.Core.Path.{_≡_};
 ghost use Rattle.kinds.specs.Values.{judgedOf};
-ghost use Rattle.walk.specs.References.{firstIn, namedIn, refIn, Referable, referredOf};
+ghost use Rattle.walk.specs.References.{firstIn, undefinedIn, namedIn, refIn, Referable, referredOf};
 
 fn size(n: u32) -> usize
     ensures { λ r. ⌜ r ≡ n ⌝ }
@@ -24,11 +25,18 @@ fn judge_first(words: &[u32], r: usize, line: &[u8]) -> Judged
     ensures { λ v. ⌜ v ≡ judgedOf (firstIn (now (words .entry)) r (now (line .entry))) ⌝ }
 {
     let station = number_in(line, Point::STATION, Point::STATION_WIDTH);
-    let first = word_at(words, size(station));
+    let first = word_at(words, slot(9, station));
     if size(first) == r {
         return Judged::Good;
     }
     Judged::Bad(11, Point::STATION)
+}
+
+// Whether no record of a kind defines a number.
+fn is_undefined(words: &[u32], kind: usize, number: u32) -> bool
+    ensures { λ r. ⌜ r ≡ undefinedIn (now (words .entry)) kind number ⌝ }
+{
+    word_at(words, slot(kind, number)) == 0
 }
 
 // 12: a *25* names a defined station, instrument and antenna.
@@ -36,15 +44,15 @@ fn judge_named(words: &[u32], line: &[u8]) -> Judged
     ensures { λ v. ⌜ v ≡ judgedOf (namedIn (now (words .entry)) (now (line .entry))) ⌝ }
 {
     let station = number_in(line, Occupation::STATION, Occupation::STATION_WIDTH);
-    if word_at(words, size(station)) == 0 {
+    if is_undefined(words, 9, station) {
         return Judged::Bad(12, Occupation::STATION);
     }
     let instrument = number_in(line, Occupation::INSTRUMENT, Occupation::INSTRUMENT_WIDTH);
-    if word_at(words, 10_000 + size(instrument)) == 0 {
+    if is_undefined(words, 7, instrument) {
         return Judged::Bad(12, Occupation::INSTRUMENT);
     }
     let antenna = number_in(line, Occupation::ANTENNA, Occupation::ANTENNA_WIDTH);
-    if word_at(words, 11_000 + size(antenna)) == 0 {
+    if is_undefined(words, 8, antenna) {
         return Judged::Bad(12, Occupation::ANTENNA);
     }
     Judged::Good

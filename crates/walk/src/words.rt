@@ -43,14 +43,14 @@ pub(crate) fn leading(line: &[u8], kind: usize) -> u32
     }
 }
 
-// The word that a record of a kind defines; 12,000 where it defines none.
-fn slot(kind: usize, lead: u32) -> usize
-    ensures { λ r. ⌜ r ≡ slotIn kind lead ⌝ }
+// The word of a number that records of a kind define; 12,000 for a kind that defines none.
+pub(crate) fn slot(kind: usize, number: u32) -> usize
+    ensures { λ r. ⌜ r ≡ slotIn kind number ⌝ }
 {
     match kind {
-        7 => 10_000 + lead as usize,
-        8 => 11_000 + lead as usize,
-        9 => lead as usize,
+        7 => 10_000 + number as usize,
+        8 => 11_000 + number as usize,
+        9 => number as usize,
         _ => 12_000,
     }
 }

@@ -1,4 +1,6 @@
-use Rattle.walk.proofs.WordLaws.{lead-25, lead-70, lead-72, lead-80, lead-none}
+use Rattle.walk.proofs.WordLaws.{lead-25, lead-family, lead-none}
+use Rattle.rules.specs.References.{stations, instruments, antennas}
+use Rattle.rules.proofs.ReferenceLaws.{stations-in, instruments-in, antennas-in}
 use borrow.Author.Needs.{needs}
 use Rattle.walk.proofs.words.leading.Statement.{statement}
 use Rattle.walk.proofs.words.leading.Tie as tie
@@ -28,15 +30,15 @@ returns c = search (lead-25, needs)
 
 -- src/words.rt:34:1
 returns-2 : tie.Need-returns-2
-returns-2 c = search (lead-70, needs)
+returns-2 c = search (lead-family instruments instruments-in, needs)
 
 -- src/words.rt:34:1
 returns-3 : tie.Need-returns-3
-returns-3 c = search (lead-72, needs)
+returns-3 c = search (lead-family antennas antennas-in, needs)
 
 -- src/words.rt:34:1
 returns-4 : tie.Need-returns-4
-returns-4 c = search (lead-80, needs)
+returns-4 c = search (lead-family stations stations-in, needs)
 
 -- src/words.rt:34:1
 returns-5 : tie.Need-returns-5

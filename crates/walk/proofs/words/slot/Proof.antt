@@ -1,4 +1,6 @@
-use Rattle.walk.proofs.WordLaws.{slot-70, slot-72, slot-80, slot-none}
+use Rattle.walk.proofs.WordLaws.{slot-family, slot-station, slot-none}
+use Rattle.rules.specs.References.{instruments, antennas}
+use Rattle.rules.proofs.ReferenceLaws.{instruments-in, antennas-in}
 use borrow.Author.Needs.{needs}
 use Rattle.walk.proofs.words.slot.Statement.{statement}
 use Rattle.walk.proofs.words.slot.Tie as tie
@@ -15,15 +17,15 @@ add-result-2 c = search needs
 
 -- src/words.rt:47:1
 returns : tie.Need-returns
-returns c = search (slot-70, needs)
+returns c = search (slot-family instruments instruments-in, needs)
 
 -- src/words.rt:47:1
 returns-2 : tie.Need-returns-2
-returns-2 c = search (slot-72, needs)
+returns-2 c = search (slot-family antennas antennas-in, needs)
 
 -- src/words.rt:47:1
 returns-3 : tie.Need-returns-3
-returns-3 c = search (slot-80, needs)
+returns-3 c = search (slot-station, needs)
 
 -- src/words.rt:47:1
 returns-4 : tie.Need-returns-4
