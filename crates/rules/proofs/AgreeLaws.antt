@@ -16,11 +16,11 @@ use Rattle.rules.specs.Kinds.{kindOf, *27*, *70*, *72*, *86*}
 use Rattle.rules.specs.Layouts.{at, tied, station, instrument, antenna, measurement, receiver, aerial, heights, kept, layouts, layout}
 use Rattle.rules.specs.References.{numberAt}
 use Rattle.rules.specs.Chapter4.{Past, expectation, chapter4}
-use Rattle.rules.specs.Forms.{_∈_}
+use Rattle.rules.specs.Members.{_∈_}
 use Rattle.rules.specs.Conforms.{Absent, Agreed}
-use Rattle.rules.proofs.Truth.{both, and, to≤, of≤, to≡, of≡, cases, to-within}
+use Rattle.rules.proofs.Truth.{all-members, members-all, both, and, to≤, of≤, to≡, of≡, cases, to-within}
 use Rattle.rules.proofs.Lawful.{blanks, good-fits}
-use Rattle.rules.proofs.SetLaws.{all-members, members-all, same-truth}
+use Rattle.rules.proofs.SetLaws.{same-truth}
 use Rattle.rules.proofs.FormLaws.{all-blank}
 use Rattle.rules.proofs.FieldLaws.{valueAt-told}
 

@@ -19,10 +19,11 @@ use Rattle.rules.specs.Layouts.{layout}
 use Rattle.rules.specs.Order.{mayCome, placeNamed, placeAfter, ruled, order, goto, nothing, lastJob}
 use Rattle.rules.specs.References.{numberAt}
 use Rattle.rules.specs.Chapter4.{Past, atStart, sameBytes, mayStand, expectation, chapter4}
-use Rattle.rules.specs.Forms.{_∈_, Spells}
+use Rattle.rules.specs.Members.{_∈_}
+use Rattle.rules.specs.Forms.{Spells}
 use Rattle.rules.specs.Conforms.{kindAt, recordAt, Nearest, Place, Agreed, Stands, Conforms}
-use Rattle.rules.proofs.Truth.{both, and, to≤, of≤, no≤, to≡, of≡, no≡, of≢, cases, either, below-or-equal}
-use Rattle.rules.proofs.SetLaws.{all-members, members-all, any-member, member-any, printed-in, printed-of}
+use Rattle.rules.proofs.Truth.{all-members, members-all, both, and, to≤, of≤, no≤, to≡, of≡, no≡, of≢, cases, either, below-or-equal}
+use Rattle.rules.proofs.SetLaws.{any-member, member-any, printed-in, printed-of}
 use Rattle.rules.proofs.SpellLaws.{spelled-iff, code-iff}
 use Rattle.rules.proofs.FieldLaws.{isOk-⨾, isOk-check}
 use Rattle.rules.proofs.RecordLaws.{bytes-length, agreeing-line}

@@ -10,26 +10,16 @@ use Rattle.rules.specs.Tests.{all, _&_, _≤?_, _=?_}
 use Rattle.rules.specs.Fields.{Check, isOk, run}
 use Rattle.rules.specs.Records.{Meaning}
 use Rattle.rules.specs.Files.{isAccept, refer}
-use Rattle.rules.specs.Kinds.{*25*, *80*}
-use Rattle.rules.specs.References.{Family, stations, instruments, antennas, families, _∈_, ofFirst, isA, numberAt, defines, definerFrom, definer, asked, namedCheck, refChecks, tabulate, hasWord, wordAt, words, blankRecord, Defines, Named, Referred}
+use Rattle.rules.specs.Kinds.{kindOf, *25*, *80*}
+use Rattle.rules.specs.Members.{_∈_}
+use Rattle.rules.specs.References.{Family, stations, instruments, antennas, families, ofFirst, isA, numberAt, defines, definerFrom, definer, asked, namedCheck, refChecks, tabulate, hasWord, wordAt, words, blankRecord, Defines, Named, Referred}
 use Rattle.rules.specs.Chapter4.{chapter4}
-use Rattle.rules.proofs.Truth.{both, and, to≤, of≤, no≤, to≡, of≡, no≡, of≢, to-within, of-within, cases, either, not-both, below-or-equal}
+use Rattle.rules.proofs.Truth.{all-members, members-all, both, and, to≤, of≤, no≤, to≡, of≡, no≡, of≢, to-within, of-within, cases, either, not-both, below-or-equal}
 use Rattle.rules.proofs.FieldLaws.{isOk-⨾, isOk-check}
 use Rattle.rules.proofs.FileLaws.{inRecord-accept}
 
 -- ---- the families
--- what is tested of each holds of any, and the other way round
 module _ (p : Family → Bool) where
-  pub all-in : (Fs : List Family) → all p Fs ≡ true → (F : Family) → F ∈ Fs → p F ≡ true
-  unfolding all _∈_
-  all-in [] h F i = absurd i
-  all-in (G ∷ Fs) h F i = either (λ e. rw e (both h .0)) (all-in Fs (both h .1) F) i
-
-  pub all-of : (Fs : List Family) → ((F : Family) → F ∈ Fs → p F ≡ true) → all p Fs ≡ true
-  unfolding all _∈_
-  all-of [] f = refl
-  all-of (G ∷ Fs) f = and (f G (inl refl)) (all-of Fs (λ F i. f F (inr i)))
-
   -- a family with p, or none
   pub one-or-none : (Fs : List Family) → ((F : Family) × (F ∈ Fs) × (p F ≡ true)) ⊎ ((F : Family) → F ∈ Fs → p F ≡ false)
   unfolding _∈_
@@ -110,7 +100,7 @@ word-range F j h = to-within h
 
 module _ (F : Family) (i : F ∈ families) where
   tabled : (F .base + F .most ≤? 11_999 ≡ true) × (all (apart F) families ≡ true)
-  tabled = both (all-in _ families families-tabled F i)
+  tabled = both (all-members _ families families-tabled F i)
 
   pub in-table : (j : ℕ) → hasWord j F ≡ true → j < 12_000
   in-table j h = omega (arith, to≤ (tabled .0), word-range F j h .1)
@@ -118,7 +108,7 @@ module _ (F : Family) (i : F ∈ families) where
   module _ (G : Family) (g : G ∈ families) where
     parted : (asked (F .kind =? G .kind) (alike F G) ≡ true) × (asked (F .base ≤? G .base + G .most & G .base ≤? F .base + F .most) (alike F G) ≡ true)
     unfolding apart
-    parted = both (all-in (apart F) families (tabled .1) G g)
+    parted = both (all-members (apart F) families (tabled .1) G g)
 
     pub same-kind : F .kind ≡ G .kind → F ≡ G
     same-kind e = alike-is F G (when-asked _ _ (parted .0) (of≡ e))
@@ -130,34 +120,42 @@ module _ (F : Family) (i : F ∈ families) where
         alike-is F G (when-asked _ _ (parted .1) (and (of≤ (omega arith)) (of≤ (omega arith))))
 
 -- ---- the definer of a number
+defining : (k n : ℕ) (m : Meaning) → kindOf (m .code) ≡ k → numberAt 11 m ≡ n → defines k n m ≡ true
+unfolding defines isA
+defining k n m a b = and (of≡ a) (of≡ b)
+
+defined : (k n : ℕ) (m : Meaning) → defines k n m ≡ true → (kindOf (m .code) ≡ k) × (numberAt 11 m ≡ n)
+unfolding defines isA
+defined k n m h = (to≡ (both h .0), to≡ (both h .1))
+
 -- it is 0 exactly when no record defines the number, else the first that does
 module _ (k n : ℕ) where
   definer-none : (r : ℕ) (ms : List Meaning) → 1 ≤ r → definerFrom r k n ms ≡ 0 → (i : ℕ) → Defines ms k n i → ⊥
   unfolding definerFrom Defines
   definer-none r [] p e i x = omega (arith, x .0)
-  definer-none r (m ∷ ms) p e zero x = let z : r ≡ 0 = rw (x .1) at e in omega arith
+  definer-none r (m ∷ ms) p e zero x = let z : r ≡ 0 = rw (defining k n m (x .1) (x .2)) at e in omega arith
   definer-none r (m ∷ ms) p e (suc i) x =
       cases (defines k n m)
       (λ d. let z : r ≡ 0 = rw d at e in omega arith)
-      (λ d. definer-none (r + 1) ms (omega arith) (rw d at e) i (omega (arith, x .0), x .1))
+      (λ d. definer-none (r + 1) ms (omega arith) (rw d at e) i (omega (arith, x .0), x .1, x .2))
 
   definer-some : (r : ℕ) (ms : List Meaning) → (definerFrom r k n ms ≡ 0) ⊎ ((i : ℕ) × Defines ms k n i × (definerFrom r k n ms ≡ r + i))
   unfolding definerFrom Defines
   definer-some r [] = inl refl
   definer-some r (m ∷ ms) =
       cases (defines k n m)
-      (λ d. inr (0, (omega arith, d), rw d (omega arith)))
-      (λ d. either (λ z. inl (rw d z)) (λ x. inr (suc (x .0), (omega (arith, x .1 .0), x .1 .1), rw d (omega (arith, x .2)))) (definer-some (r + 1) ms))
+      (λ d. inr (0, (omega arith, defined k n m d .0, defined k n m d .1), rw d (omega arith)))
+      (λ d. either (λ z. inl (rw d z)) (λ x. inr (suc (x .0), (omega (arith, x .1 .0), x .1 .1, x .1 .2), rw d (omega (arith, x .2)))) (definer-some (r + 1) ms))
 
   -- no record before the definer defines the number
   definer-least : (r : ℕ) (ms : List Meaning) (i : ℕ) → Defines ms k n i → definerFrom r k n ms ≤ r + i
   unfolding definerFrom Defines
   definer-least r [] i x = absurd (omega (arith, x .0))
-  definer-least r (m ∷ ms) zero x = rw (x .1) (omega arith)
+  definer-least r (m ∷ ms) zero x = rw (defining k n m (x .1) (x .2)) (omega arith)
   definer-least r (m ∷ ms) (suc i) x =
       cases (defines k n m)
       (λ d. rw d (omega arith))
-      (λ d. let h : definerFrom (r + 1) k n ms ≤ r + 1 + i = definer-least (r + 1) ms i (omega (arith, x .0), x .1) in rw d (omega arith))
+      (λ d. let h : definerFrom (r + 1) k n ms ≤ r + 1 + i = definer-least (r + 1) ms i (omega (arith, x .0), x .1, x .2) in rw d (omega arith))
 
 pub defined-iff : (k n : ℕ) (ms : List Meaning) → (1 ≤? definer k n ms ≡ true) ↔ ((i : ℕ) × Defines ms k n i)
 unfolding definer
@@ -228,41 +226,33 @@ run-asked file r m h =
     let t = both (sym (run-tests file r m) ∙ h) in
     record {
       first-80 = λ e. to≡ (when-asked _ _ (t .0) e);
-      named = λ e F i. when-asked _ _ (all-in (λ G. namedCheck file m G .test) families (t .1) F i) e;
+      named = λ e F i. when-asked _ _ (all-members (λ G. namedCheck file m G .test) families (t .1) F i) e;
     }
 
 asked-run : (file : List Meaning) (r : ℕ) (m : Meaning) → Asked file r m → isOk (run (refChecks file r m)) ≡ true
 asked-run file r m a =
     run-tests file r m
-    ∙ and (if-asked _ _ (λ e. of≡ (a .first-80 e))) (all-of (λ G. namedCheck file m G .test) families (λ F i. if-asked _ _ (λ e. a .named e F i)))
+    ∙ and (if-asked _ _ (λ e. of≡ (a .first-80 e))) (members-all (λ G. namedCheck file m G .test) families (λ F i. if-asked _ _ (λ e. a .named e F i)))
 
 -- "defined by its *80*, and by one only; each *25* names a defined station, instrument and antenna"
-number-is : (ms : List Meaning) (k n i : ℕ) → Defines ms k n i → (isA k (getD ms i blankRecord) ≡ true) × (numberAt 11 (getD ms i blankRecord) ≡ n)
-unfolding Defines defines
-number-is ms k n i x = (both (x .1) .0, to≡ (both (x .1) .1))
-
-defines-own : (ms : List Meaning) (k i : ℕ) → i < length ms → isA k (getD ms i blankRecord) ≡ true → Defines ms k (numberAt 11 (getD ms i blankRecord)) i
-unfolding Defines defines
-defines-own ms k i h e = (h, and e (of≡ {m = numberAt 11 (getD ms i blankRecord)} refl))
-
 pub references-iff : (ms : List Meaning) → (isAccept (refer chapter4 ms 1 ms) ≡ true) ↔ Referred ms
-unfolding Named
+unfolding Named Defines isA
 references-iff ms = (forth, back)
   where
     forth : isAccept (refer chapter4 ms 1 ms) ≡ true → Referred ms
     forth h =
         let own : (i : ℕ) → i < length ms → Asked ms (1 + i) (getD ms i blankRecord) = λ i k. run-asked ms (1 + i) (getD ms i blankRecord) (refer-each ms 1 ms h i k) in
         let the : (n i : ℕ) → Defines ms *80* n i → definer *80* n ms ≡ 1 + i
-        = λ n i x. let y = number-is ms *80* n i x in subst (λ j. definer *80* j ms ≡ 1 + i) (y .1) (own i (unfold Defines in x .0) .first-80 (y .0)) in
+        = λ n i x. subst (λ j. definer *80* j ms ≡ 1 + i) (x .2) (own i (x .0) .first-80 (of≡ (x .1))) in
         record {
           one-only = λ n i j x y. omega (arith, the n i x, the n j y);
-          named = λ i k e F f. defined-iff (F .kind) _ ms .0 (own i k .named e F f);
+          named = λ i k e F f. defined-iff (F .kind) _ ms .0 (own i k .named (of≡ e) F f);
         }
 
     back : Referred ms → isAccept (refer chapter4 ms 1 ms) ≡ true
     back g = refer-all ms 1 ms (λ i k. asked-run ms (1 + i) (getD ms i blankRecord) record {
-      first-80 = λ e. let x = defines-own ms *80* i k e in omega (arith, definer-first *80* _ ms i x (λ j y. eq-le (g .one-only _ i j x y)));
-      named = λ e F f. defined-iff (F .kind) _ ms .1 (g .named i k e F f);
+      first-80 = λ e. let x : Defines ms *80* (numberAt 11 (getD ms i blankRecord)) i = (k, to≡ e, refl) in omega (arith, definer-first *80* _ ms i x (λ j y. eq-le (g .one-only _ i j x y)));
+      named = λ e F f. defined-iff (F .kind) _ ms .1 (g .named i k (to≡ e) F f);
     })
       where
         eq-le : {i j : ℕ} → i ≡ j → i ≤ j

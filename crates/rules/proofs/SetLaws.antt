@@ -9,23 +9,12 @@ use lib.ListN.{replicate, length}
 use Rattle.rules.specs.Tests.{all, within, _&_, _≤?_, _=?_}
 use Rattle.rules.specs.Characters.{ascii, isPrintable, isBlank, isDigit, isLetter, anyOf, titleMarks, isTitle, Set, letter, digit, space, printable, title, name, only, _or_, member}
 use Rattle.rules.specs.Fields.{sameTruth}
-use Rattle.rules.specs.Forms.{_∈_, _⊆_, charactersOf}
-use Rattle.rules.proofs.Truth.{both, and, to≤, of≤, no≤, to≡, of≡, is-no, cases, choice, not-both, to-within, under, tried, all-weaken}
+use Rattle.rules.specs.Members.{_∈_, _⊆_}
+use Rattle.rules.specs.Forms.{charactersOf}
+use Rattle.rules.proofs.Truth.{both, and, to≤, of≤, no≤, to≡, of≡, is-no, cases, choice, not-both, to-within, under, tried, all-weaken, all-members, members-all}
 use Rattle.rules.proofs.Lawful.{member-printable}
 
--- ---- a test of members is a test of the list
-module _ {A : Type 0} (p : A → Bool) where
-  pub all-members : (xs : List A) → all p xs ≡ true → (x : A) → x ∈ xs → p x ≡ true
-  unfolding all _∈_
-  all-members [] h x m = absurd m
-  all-members (y ∷ ys) h x (inl e) = rw e (both h .0)
-  all-members (y ∷ ys) h x (inr m) = all-members ys (both h .1) x m
-
-  pub members-all : (xs : List A) → ((x : A) → x ∈ xs → p x ≡ true) → all p xs ≡ true
-  unfolding all _∈_
-  members-all [] f = refl
-  members-all (y ∷ ys) f = and (f y (inl refl)) (members-all ys (λ x m. f x (inr m)))
-
+-- ---- a list of characters
 pub any-member : (cs : List ℕ) (b : ℕ) → anyOf cs b ≡ true → b ∈ cs
 unfolding anyOf _∈_
 any-member [] b h = absurd (false≢true h)

@@ -15,7 +15,8 @@ use Rattle.rules.specs.Digits.{val, put}
 use Rattle.rules.specs.Items.{Value, gap, missing, num, text, label, Way, latitude, longitude, each, orBlank, Item, blank, constant, number, height, angle, month, media, word}
 use Rattle.rules.specs.Items.{signed, passes, render, angleOf, dmsForm, columns, top, low, plus, minusOf, angleValue, isMonth, isMedia, onGap, onNumber, onText, onLabel, width, shape, valueOf, fits, good}
 use Rattle.rules.specs.Kinds.{*AA*, *10*, dataCodes, kindFrom, starred, kindBetween, kindOf, known}
-use Rattle.rules.specs.Forms.{_∈_, _⊆_, charactersOf, IsAngle, Sided, AngleField, MonthField, MediaField, Spells, Code}
+use Rattle.rules.specs.Members.{_∈_, _⊆_}
+use Rattle.rules.specs.Forms.{charactersOf, IsAngle, Sided, AngleField, MonthField, MediaField, Spells, Code}
 use Rattle.rules.proofs.Truth.{both, and, to≤, of≤, no≤, of>, to≡, of≡, of≢, is-no, to-within, of-within, cases, choice, either, all-append, all-parts, tried, under, true-and}
 use Rattle.rules.proofs.DigitLaws.{length-put, digits-put, val-put}
 use Rattle.rules.proofs.Lawful.{blanks, lawful, render-good, low-top, east, degrees, minutes, seconds}

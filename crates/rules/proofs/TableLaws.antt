@@ -13,10 +13,11 @@ use Rattle.rules.specs.Fields.{Field, given, entriesOf, valueAt, numOf, 
 use Rattle.rules.specs.Records.{Meaning, told, meant}
 use Rattle.rules.specs.Kinds.{kindOf, known, *25*}
 use Rattle.rules.specs.Layouts.{at, tied, station, instrument, antenna, initials, occupation, receiver, aerial, point, kept, layouts, layout}
-use Rattle.rules.specs.References.{Family, families, _∈_, isA, numberAt, defines, definerFrom, definer, tabulate, hasWord, wordAt, words, slotOf, mark, filled, tally, counts, sum}
+use Rattle.rules.specs.Members.{_∈_}
+use Rattle.rules.specs.References.{Family, families, isA, numberAt, defines, definerFrom, definer, tabulate, hasWord, wordAt, words, slotOf, mark, filled, tally, counts, sum}
 use Rattle.rules.specs.Chapter4.{chapter4}
-use Rattle.rules.proofs.Truth.{both, to≤, to≡, of≡, no≡, of≢, is-no, cases, either, not-both, true-and, to-within, of-within, below-or-equal}
-use Rattle.rules.proofs.ReferenceLaws.{all-in, one-or-none, first-is, first-none, word-range, in-table, same-kind, families-apart, tabulate-at, length-words, word-at}
+use Rattle.rules.proofs.Truth.{all-members, both, to≤, to≡, of≡, no≡, of≢, is-no, cases, either, not-both, true-and, to-within, of-within, below-or-equal}
+use Rattle.rules.proofs.ReferenceLaws.{one-or-none, first-is, first-none, word-range, in-table, same-kind, families-apart, tabulate-at, length-words, word-at}
 
 -- ---- numbers of records that can be meant lie in their family's range
 number-range : (w lo hi : ℕ) (v : Value) → fits (number w lo hi false) v ≡ true → (lo ≤ numOf v) × (numOf v ≤ hi)
@@ -81,10 +82,10 @@ module _ (F : Family) where
 
   module _ (i : F ∈ families) where
     pub own-field : hasNumberAt F 11 (getD layouts (F .kind) kept) ≡ true
-    own-field = both (all-in _ families families-ranged F i) .0
+    own-field = both (all-members _ families families-ranged F i) .0
 
     pub named-field : hasNumberAt F (F .named) (getD layouts *25* kept) ≡ true
-    named-field = both (all-in _ families families-ranged F i) .1
+    named-field = both (all-members _ families families-ranged F i) .1
 
     module _ (m : Meaning) (h : meant chapter4 m ≡ true) where
       pub own-range : isA (F .kind) m ≡ true → (1 ≤ numberAt 11 m) × (numberAt 11 m ≤ F .most)

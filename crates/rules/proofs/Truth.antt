@@ -8,6 +8,7 @@ use native.Mathlib.Omega.{arith}
 use lib.ListN.{length, getD, replicate}
 use borrow.Author.Tests.{leb-true, leb-false, le-leb, lt-leb, eqb-true, eq-eqb, ne-eqb}
 use Rattle.rules.specs.Tests.{_&_, _≤?_, _=?_, within, all}
+use Rattle.rules.specs.Members.{_∈_}
 
 pub both : {a b : Bool} → a & b ≡ true → (a ≡ true) × (b ≡ true)
 unfolding _&_
@@ -164,3 +165,16 @@ pub &-left-comm : (a b c : Bool) → a & (b & c) ≡ b & (a & c)
 &-left-comm a b c = sym (&-assoc a b c) ∙ ap (λ t. t & c) (&-comm a b) ∙ &-assoc b a c
 
 pub ruleset &-sort = (&-assoc, &-comm, &-left-comm)
+
+-- ---- a test of members is a test of the list
+module _ {A : Type 0} (p : A → Bool) where
+  pub all-members : (xs : List A) → all p xs ≡ true → (x : A) → x ∈ xs → p x ≡ true
+  unfolding all _∈_
+  all-members [] h x m = absurd m
+  all-members (y ∷ ys) h x (inl e) = rw e (both h .0)
+  all-members (y ∷ ys) h x (inr m) = all-members ys (both h .1) x m
+
+  pub members-all : (xs : List A) → ((x : A) → x ∈ xs → p x ≡ true) → all p xs ≡ true
+  unfolding all _∈_
+  members-all [] f = refl
+  members-all (y ∷ ys) f = and (f y (inl refl)) (members-all ys (λ x m. f x (inr m)))

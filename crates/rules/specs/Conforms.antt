@@ -6,9 +6,10 @@ use mathlib.Core.List.{List, [], _∷_}
 use Prim.Native.Nat.{ℕ, zero, suc, _+_, _≤_, _<_}
 use lib.ListN.{length, take, getD, replicate}
 use Rattle.rules.specs.Tests.{_&_, _≤?_, _=?_}
+use Rattle.rules.specs.Members.{_∈_, _⊆_}
 use Rattle.rules.specs.Characters.{printable}
 use Rattle.rules.specs.Items.{Value, gap, missing, text}
-use Rattle.rules.specs.Forms.{_∈_, _⊆_, charactersOf, Spells, Code}
+use Rattle.rules.specs.Forms.{charactersOf, Spells, Code}
 use Rattle.rules.specs.Fields.{Bond, free, notBefore, goesWith, expected, Field, columnsOf, valueAt, numOf}
 use Rattle.rules.specs.Records.{Meaning, sequence, codeAt, meaning, told}
 use Rattle.rules.specs.Files.{lineAt, begun, meanings}

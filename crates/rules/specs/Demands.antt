@@ -6,11 +6,12 @@ use mathlib.Core.List.{List, [], map}
 use Prim.Native.Nat.{ℕ, _+_, _*_, _≤_, _<_}
 use lib.ListN.{length, take, getD, replicate}
 use lib.IntN.{pos}
+use Rattle.rules.specs.Members.{_∈_}
 use Rattle.rules.specs.Items.{num, valueOf}
 use Rattle.rules.specs.Records.{Meaning, sequence, codeAt}
 use Rattle.rules.specs.Files.{Result, lines, meanings, accepted, rewritten}
 use Rattle.rules.specs.Kinds.{kindOf}
-use Rattle.rules.specs.References.{Family, families, _∈_, definer, words, filled, tally, counts, sum}
+use Rattle.rules.specs.References.{Family, families, definer, words, filled, tally, counts, sum}
 use Rattle.rules.specs.Faults.{FirstOf, HasFault, CallFaults}
 use Rattle.rules.specs.Calls.{outcome}
 use Rattle.rules.specs.Chapter4.{chapter4}

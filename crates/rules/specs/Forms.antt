@@ -6,22 +6,11 @@ use mathlib.Core.List.{List, [], _∷_, _++_}
 use Prim.Native.Nat.{ℕ, _+_, _-_, _*_, _≤_, _<_}
 use lib.ListN.{length, replicate, getD}
 use lib.IntN.{ℤ, pos, negℤ}
+use Rattle.rules.specs.Members.{_∈_, _⊆_}
 use Rattle.rules.specs.Characters.{ascii, isPrintable, Set, letter, digit, space, printable, title, name, only, _or_}
 use Rattle.rules.specs.Digits.{val, put}
 use Rattle.rules.specs.Items.{Value, gap, missing, num, text, label, signed, Way, latitude, longitude, columns, top, low, plus, minusOf, each, orBlank, Item, blank, constant, number, height, angle, month, media, word}
 use Rattle.rules.specs.Kinds.{*AA*, dataCodes}
-
--- ---- members of a list
-module _ {A : Type 0} where
-  infix 40 _∈_
-  infix 40 _⊆_
-  unfoldable pub _∈_ : A → List A → Type 0
-  x ∈ [] = ⊥
-  x ∈ (y ∷ ys) = (x ≡ y) ⊎ (x ∈ ys)
-
-  -- every member of the one is a member of the other
-  unfoldable pub _⊆_ : List A → List A → Type 0
-  xs ⊆ ys = (x : A) → x ∈ xs → x ∈ ys
 
 -- ---- 01, "Field tables": the members of each set of characters
 unfoldable pub charactersOf : Set → List ℕ

@@ -1,5 +1,6 @@
 -- 01 as definitions, to be read in this order.
 pub mod Tests  -- tests
+pub mod Members  -- members of a list
 pub mod Characters  -- sets of characters
 pub mod Digits  -- digits and numbers
 pub mod Items  -- how a field is read, and written

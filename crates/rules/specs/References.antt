@@ -1,12 +1,12 @@
 -- 01, "A station number is defined by its *80*, and by one only; each *25* names a defined station, instrument and antenna",
 -- and "Memory": the words of the lent table.
 use mathlib.Core.Path.{_≡_}
-use mathlib.Core.Logic.{_⊎_}
 use mathlib.Core.Bool.{Bool, true, cond}
 use mathlib.Core.List.{List, [], _∷_, map}
 use Prim.Native.Nat.{ℕ, zero, suc, _+_, _-_, _<_}
 use lib.ListN.{length, getD, set}
 use Rattle.rules.specs.Tests.{_&_, _≤?_, _=?_, within}
+use Rattle.rules.specs.Members.{_∈_}
 use Rattle.rules.specs.Fields.{Check, valueAt, entriesOf, numOf}
 use Rattle.rules.specs.Records.{Meaning}
 use Rattle.rules.specs.Kinds.{kindOf, *25*, *70*, *72*, *80*}
@@ -31,11 +31,6 @@ antennas = record { kind = *72*; base = 11_000; most = 999; width = 3; named = 3
 
 abbrev pub families : List Family
 families = stations ∷ instruments ∷ antennas ∷ []
-
-infix 30 _∈_
-unfoldable pub _∈_ : Family → List Family → Type 0
-F ∈ [] = ⊥
-F ∈ (G ∷ Fs) = (F ≡ G) ⊎ (F ∈ Fs)
 
 -- what f says of the first family with p, d where there is none
 unfoldable pub ofFirst : (Family → Bool) → (Family → ℕ) → ℕ → List Family → ℕ
@@ -121,7 +116,7 @@ blankRecord = record { code = []; values = [] }
 
 -- record i + 1 is of kind k and has number n
 unfoldable pub Defines : List Meaning → ℕ → ℕ → ℕ → Type 0
-Defines ms k n i = (i < length ms) × (defines k n (getD ms i blankRecord) ≡ true)
+Defines ms k n i = (i < length ms) × (kindOf (getD ms i blankRecord .code) ≡ k) × (numberAt 11 (getD ms i blankRecord) ≡ n)
 
 -- a record names a number of the family that some record defines
 unfoldable pub Named : List Meaning → Meaning → Family → Type 0
@@ -129,4 +124,4 @@ Named ms m F = (i : ℕ) × Defines ms (F .kind) (numberAt (F .named) m) i
 
 pub record Referred (ms : List Meaning) : Type 0 where
   pub one-only : (n i j : ℕ) → Defines ms *80* n i → Defines ms *80* n j → i ≡ j
-  pub named : (i : ℕ) → i < length ms → isA *25* (getD ms i blankRecord) ≡ true → (F : Family) → F ∈ families → Named ms (getD ms i blankRecord) F
+  pub named : (i : ℕ) → i < length ms → kindOf (getD ms i blankRecord .code) ≡ *25* → (F : Family) → F ∈ families → Named ms (getD ms i blankRecord) F

@@ -11,7 +11,8 @@ use Rattle.rules.specs.Fields.{Field, given, entriesOf, values, valueAt, column
 use Rattle.rules.specs.Records.{codeAt, meaning}
 use Rattle.rules.specs.Kinds.{kindOf, *25*}
 use Rattle.rules.specs.Layouts.{kept, layouts, layout}
-use Rattle.rules.specs.References.{Family, stations, families, _∈_, isA, numberAt, slotOf}
+use Rattle.rules.specs.Members.{_∈_}
+use Rattle.rules.specs.References.{Family, stations, families, isA, numberAt, slotOf}
 use Rattle.rules.specs.Chapter4.{chapter4}
 use Rattle.rules.proofs.Truth.{to≡, cases}
 use Rattle.rules.proofs.ReferenceLaws.{stations-in, first-same}

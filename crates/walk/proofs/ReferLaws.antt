@@ -12,7 +12,8 @@ use Rattle.rules.specs.Fields.{Verdict, ok, fault, check, _⨾_, Check, run}
 use Rattle.rules.specs.Records.{Meaning, codeAt, meaning, formedLine, meant}
 use Rattle.rules.specs.Files.{Result, inRecord, lineAt, begun, linesFrom, lines, meanings, refer, formedLines}
 use Rattle.rules.specs.Kinds.{kindOf, *25*, *70*, *72*, *80*}
-use Rattle.rules.specs.References.{Family, stations, families, _∈_, isA, numberAt, definer, asked, namedCheck, refChecks, words}
+use Rattle.rules.specs.Members.{_∈_}
+use Rattle.rules.specs.References.{Family, stations, families, isA, numberAt, definer, asked, namedCheck, refChecks, words}
 use Rattle.rules.specs.Calls.{answer}
 use Rattle.rules.specs.Chapter4.{chapter4}
 use Rattle.rules.proofs.Truth.{both, to≤, of≤, of>, to≡, of≡, no≡, of≢, cases, above-0}

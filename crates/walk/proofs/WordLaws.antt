@@ -10,9 +10,10 @@ use borrow.Author.Fill.{fill-more}
 use Rattle.rules.specs.Tests.{all, _&_, _=?_}
 use Rattle.rules.specs.Items.{valueOf}
 use Rattle.rules.specs.Kinds.{*25*, *70*, *72*, *80*}
-use Rattle.rules.specs.References.{Family, stations, families, _∈_, ofFirst, mark}
-use Rattle.rules.proofs.Truth.{to≡, of≡, of≢}
-use Rattle.rules.proofs.ReferenceLaws.{all-in, first-is, stations-in, same-kind}
+use Rattle.rules.specs.Members.{_∈_}
+use Rattle.rules.specs.References.{Family, stations, families, ofFirst, mark}
+use Rattle.rules.proofs.Truth.{all-members, to≡, of≡, of≢}
+use Rattle.rules.proofs.ReferenceLaws.{first-is, stations-in, same-kind}
 use Rattle.columns.specs.Types.{natOf}
 use Rattle.reading.specs.Values.{natIn}
 use Rattle.walk.specs.Words.{noWords, leadWidth, leadIn, slotIn}
@@ -24,7 +25,7 @@ unfolding all leadWidth ofFirst _=?_ _&_
 leads = refl
 
 pub lead-width : (F : Family) → F ∈ families → leadWidth (F .kind) ≡ F .width
-lead-width F i = to≡ (all-in (λ G. leadWidth (G .kind) =? G .width) families leads F i)
+lead-width F i = to≡ (all-members (λ G. leadWidth (G .kind) =? G .width) families leads F i)
 
 pub lead-25 : (k : ℕ) (l : List ℕ) (n : ℕ) → k ≡ *25* → n ≡ natIn 11 4 l → n ≡ leadIn k l
 unfolding leadIn leadWidth _=?_
