@@ -1,20 +1,21 @@
 -- Words taken for values: what its field's type cannot hold is taken for a value that no field holds.
 use mathlib.Core.Path.{_≡_, refl, sym, _∙_, ap}
-use mathlib.Core.Bool.{Bool, true, false, cond}
+use mathlib.Core.Bool.{Bool, true, false}
 use mathlib.Core.List.{List, [], _∷_, _++_}
-use Prim.Native.Nat.{ℕ, zero, suc, _+_, _≤_, _<_, _^_}
+use Prim.Native.Nat.{ℕ, zero, suc, _+_, _≤_, _<_}
 use native.Mathlib.Omega.{arith}
 use lib.ListN.{length, getD, drop}
 use lib.IntN.{ℤ, pos, negsuc}
 use lib.Dec.{eqb}
 use mir.Syntax.{w64}
 use mir.Val.{toZ, ofZ}
-use Rattle.rules.specs.Tests.{_≤?_, _=?_}
+use Rattle.rules.specs.Tests.{_=?_}
 use Rattle.rules.specs.Items.{Value, signed}
 use Rattle.rules.specs.Fields.{Verdict, ok, fault}
 use Rattle.rules.specs.Records.{Meaning}
 use Rattle.rules.specs.Calls.{writeVerdict, writeOutput}
 use Rattle.rules.proofs.Truth.{of≤, of>, of≡, of≢}
+use Rattle.rules.proofs.Bounds.{write-bounds}
 use Rattle.columns.specs.declared.signs.SplitLong.{SplitLong}
 use Rattle.columns.specs.Leaves.{splitLongOf}
 use Rattle.columns.specs.declared.Height.{Height}
@@ -43,9 +44,8 @@ use Rattle.kinds.specs.declared.Record.the-variants as R
 use Rattle.kinds.specs.declared.Written.{Written}
 use Rattle.kinds.specs.Values.{kindNumber, sequenceValue, meaningOf, writtenOf}
 use Rattle.answers.specs.Answers.{Small, faultWords, answered, touched}
-use Rattle.answers.specs.Given.{wordAt, heldOr, numberOf, characterOf, digitOf, millimetresOf, isLeast, heightOf, sequenceOf, characterAt, numberAt, twoAt, threeAt, fourAt, mediaAt, projectGiven, occupationGiven, measurementGiven, pointGiven, heightsGiven, recordsGiven, recordGiven, given, sequenceGiven, writtenWords, Noted}
+use Rattle.answers.specs.Given.{wordAt, heldOr, digitOf, millimetresOf, isLeast, heightOf, sequenceOf, characterAt, numberAt, twoAt, threeAt, fourAt, mediaAt, projectGiven, occupationGiven, measurementGiven, pointGiven, heightsGiven, recordsGiven, recordGiven, given, sequenceGiven, writtenWords, Noted}
 use Rattle.export.proofs.AnswerLaws.{long-answer, long-touched}
-use Rattle.export.proofs.Places.{written-near}
 
 -- ---- one word
 getD-there : (ws : List ℤ) (i : ℕ) (a b : ℤ) → i < length ws → getD ws i a ≡ getD ws i b
@@ -277,7 +277,7 @@ given-kind ws k r e q = q ∙ ap (λ i. recordGiven i ws) e
 pub noted-small : (w : Written) (f : Fault) → Noted w → w ≡ Written.Refused f → Small f
 noted-small w f t e = t .small f e
 
-noted-of : (v : Verdict) → ((n c : ℕ) → v ≡ fault n c → c ≤ 93) → (f : Fault) → writtenOf v ≡ Written.Refused f → Small f
+noted-of : (v : Verdict) → ((n c : ℕ) → v ≡ fault n c → c ≤ 80) → (f : Fault) → writtenOf v ≡ Written.Refused f → Small f
 unfolding writtenOf
 noted-of ok h f e = let y : _≡_ {A = ℕ} 0 1 = cc in clash y
 noted-of (fault n c) h f e =
@@ -286,7 +286,7 @@ noted-of (fault n c) h f e =
     record { place = omega arith; spot = omega (arith, h n c refl) }
 
 pub written-noted : (w : Written) (room k : ℕ) (q : Value) (m : Meaning) → w ≡ writtenOf (writeVerdict room k q m) → Noted w
-written-noted w room k q m e = record { small = λ f z. noted-of (writeVerdict room k q m) (λ n c y. written-near room k q m n c y) f (sym e ∙ z) }
+written-noted w room k q m e = record { small = λ f z. noted-of (writeVerdict room k q m) (λ n c y. omega (arith, write-bounds room k q m n c y)) f (sym e ∙ z) }
 
 pub done-words : (w : Written) (u : List ℕ) → w ≡ Written.Done → u ≡ faultWords record { number = 0; «record» = 0; column = 0 } → u ≡ writtenWords w
 unfolding writtenWords faultWords

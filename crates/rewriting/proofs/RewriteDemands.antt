@@ -1,18 +1,18 @@
 -- The three demands as facts about rewrite, from its promise alone.
-use mathlib.Core.Path.{_≡_, refl, sym, _∙_, ap, ap₂, subst}
+use mathlib.Core.Path.{_≡_, refl, sym, _∙_, ap, subst}
 use mathlib.Core.Logic.{_↔_}
-use mathlib.Core.Bool.{Bool, true, false, cond, false≢true}
-use mathlib.Core.List.{List, [], _∷_, _++_, map}
-use Prim.Native.Nat.{ℕ, zero, suc, _+_, _*_, _≤_, _<_}
+use mathlib.Core.Bool.{Bool, true, false, false≢true}
+use mathlib.Core.List.{List, [], _++_, map}
+use Prim.Native.Nat.{ℕ, _+_, _≤_, _<_}
 use native.Mathlib.Omega.{arith}
 use lib.ListN.{length, take, drop, getD}
 use lib.Seq.{take-at, drop-at}
-use Rattle.rules.specs.Tests.{_&_, _≤?_, _=?_}
+use Rattle.rules.specs.Tests.{_≤?_}
 use Rattle.rules.specs.Items.{valueOf}
 use Rattle.rules.specs.Records.{sequence, codeAt}
 use Rattle.rules.specs.Kinds.{kindOf}
 use Rattle.rules.specs.Files.{Result, accept, refuse, isAccept, lines, meanings, verdict, accepted, rewritten}
-use Rattle.rules.specs.References.{words, counts}
+use Rattle.rules.specs.References.{words}
 use Rattle.rules.specs.Faults.{FirstOf, CallFaults}
 use Rattle.rules.specs.Calls.{outcome, bigTable, bigOutput, answer, tableLeft, outputLeft, checkAnswer, checkTable, rewriteRoom, rewriteAnswer, rewriteTable, rewriteOutput}
 use Rattle.rules.specs.Chapter4.{chapter4}
@@ -21,7 +21,7 @@ use Rattle.rules.proofs.Truth.{both, and, of≤, to≤, no≤, cases}
 use Rattle.rules.proofs.FileLaws.{keeps-length}
 use Rattle.rules.proofs.Chapter4Laws.{sound}
 use Rattle.rules.proofs.ReferenceLaws.{length-words}
-use Rattle.rules.proofs.Numbered.{zero-accepts}
+use Rattle.rules.proofs.Bounds.{zero-accepts}
 use Rattle.rules.proofs.Demands.{demand-2, demand-3}
 use Rattle.kinds.specs.declared.Checked.{Checked}
 use Rattle.kinds.specs.Values.{checkedOf}

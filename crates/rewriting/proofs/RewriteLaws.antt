@@ -1,17 +1,16 @@
 -- The call: room, what check answers, and what then stands in the output.
-use mathlib.Core.Path.{_≡_, refl, sym, _∙_, ap, ap₂, subst}
+use mathlib.Core.Path.{_≡_, refl, sym, _∙_, ap}
 use mathlib.Core.Bool.{Bool, true, false, cond, false≢true}
-use mathlib.Core.List.{List, [], _∷_, _++_}
-use Prim.Native.Nat.{ℕ, zero, suc, _+_, _-_, _≤_, _<_}
-use native.Mathlib.Omega.{arith}
+use mathlib.Core.List.{List, _++_}
+use Prim.Native.Nat.{ℕ, _+_, _-_, _≤_, _<_}
 use lib.ListN.{length, drop}
-use Rattle.rules.specs.Tests.{_&_, _≤?_}
+use Rattle.rules.specs.Tests.{_&_}
 use Rattle.rules.specs.Files.{Result, accept, refuse, isAccept, lines, meanings, verdict, accepted, rewritten, formedLines}
 use Rattle.rules.specs.Calls.{outcome, bigTable, bigOutput, answer, tableLeft, outputLeft, checkAnswer, checkTable, rewriteRoom, rewriteAnswer, rewriteTable, rewriteOutput}
 use Rattle.rules.specs.Chapter4.{chapter4}
-use Rattle.rules.proofs.Truth.{both, of≤, of>, cases, and-true}
+use Rattle.rules.proofs.Truth.{of≤, of>, cases, and-true}
 use Rattle.rules.proofs.FileLaws.{accepted-parts}
-use Rattle.rules.proofs.Numbered.{zero-accepts}
+use Rattle.rules.proofs.Bounds.{zero-accepts}
 use Rattle.kinds.specs.declared.Checked.{Checked}
 use Rattle.kinds.specs.Values.{checkedOf}
 use Rattle.walk.specs.Walking.{refusal}

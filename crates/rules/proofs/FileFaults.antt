@@ -129,7 +129,7 @@ module _ {S : Type 0} (E : Edition S) where
   walk-early s r (l ∷ ls) n k c (inr x) =
       let h = walk-early (E .next s (meaning E l)) (r + 1) ls n k c x in (h .0, omega (arith, h .1))
 
-  first-walk : Sound E → (s : S) (r : ℕ) (ls : List (List ℕ)) → FirstOf (WalkFaults s r ls) (walk E s r ls)
+  pub first-walk : Sound E → (s : S) (r : ℕ) (ls : List (List ℕ)) → FirstOf (WalkFaults s r ls) (walk E s r ls)
   unfolding WalkFaults walk RecordFaults
   first-walk sound s r [] = first-end (E .ends s) r
   first-walk sound s r (l ∷ ls) =
@@ -201,7 +201,7 @@ module _ {S : Type 0} (E : Edition S) where
   unreferred file r (l ∷ ls) n k c (suc i, a, b, x) = inr (unreferred file (r + 1) ls n k c (i, omega arith, omega arith, x))
 
   -- ---- of the whole file
-  to-fault : (f : List ℕ) (n r c : ℕ) → WalkFaults (E .start) 1 (lines f) n r c ⊎ ReferFaults (meanings E f) 1 (meanings E f) n r c → HasFault E f n r c
+  pub to-fault : (f : List ℕ) (n r c : ℕ) → WalkFaults (E .start) 1 (lines f) n r c ⊎ ReferFaults (meanings E f) 1 (meanings E f) n r c → HasFault E f n r c
   unfolding HasFault meanings before
   to-fault f n r c (inl x) = unfold Stated in
       either
@@ -232,7 +232,7 @@ module _ {S : Type 0} (E : Edition S) where
       (λ n r c n′ r′ c′ x y. unfold Precedes in inl (omega (arith, walk-early (E .start) 1 (lines f) n r c x .0, refer-late refs (meanings E f) 1 (meanings E f) n′ r′ c′ y .0))))
 
   -- with fault 1 before all others
-  has-later : Sound E → SoundRefs E → (f : List ℕ) (n r c : ℕ) → HasFault E f n r c → 1 ≤ phase n
+  pub has-later : Sound E → SoundRefs E → (f : List ℕ) (n r c : ℕ) → HasFault E f n r c → 1 ≤ phase n
   has-later sound refs f n r c x =
       either (λ y. omega (arith, walk-early (E .start) 1 (lines f) n r c y .0)) (λ y. omega (arith, refer-late refs (meanings E f) 1 (meanings E f) n r c y .0)) (of-fault f n r c x)
 

@@ -13,7 +13,7 @@ pub mod FileFaults  -- the first fault of a file, and demand 2 for any edition
 pub mod ReferenceLaws  -- references and words
 pub mod TableLaws  -- the table as it is filled, and the counts
 pub mod Chapter4Laws  -- Chapter 4 is sound, and its order is the paper's table
-pub mod Numbered  -- the number 0 is acceptance
+pub mod Bounds  -- the bounds of a fault's number, record and column
 pub mod Keeping  -- what is kept of the records before
 pub mod AgreeLaws  -- agreement is what the paper says
 pub mod Conforming  -- accepted exactly when it conforms

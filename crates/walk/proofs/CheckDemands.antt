@@ -18,7 +18,7 @@ use Rattle.rules.specs.Conforms.{Conforms}
 use Rattle.rules.specs.Demands.{Tells}
 use Rattle.rules.proofs.Truth.{of≤, to≤, of>, no≤, of≢, cases}
 use Rattle.rules.proofs.ReferenceLaws.{length-words}
-use Rattle.rules.proofs.Numbered.{file-numbers, zero-accepts}
+use Rattle.rules.proofs.Bounds.{file-numbers}
 use Rattle.rules.proofs.Conforming.{accepted-conforms}
 use Rattle.rules.proofs.Demands.{demand-2, accepted-iff, counts-and-words}
 use Rattle.kinds.specs.declared.Checked.{Checked}

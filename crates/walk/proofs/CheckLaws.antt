@@ -13,7 +13,7 @@ use Rattle.rules.specs.Chapter4.{atStart, chapter4}
 use Rattle.rules.proofs.Truth.{both, of≤, of>, of≡, of≢}
 use Rattle.rules.proofs.FileLaws.{walk-splits, formed-meant}
 use Rattle.rules.proofs.TableLaws.{filled-is-words}
-use Rattle.rules.proofs.Numbered.{zero-walks, zero-accepts}
+use Rattle.rules.proofs.Bounds.{zero-walks, zero-accepts}
 use Rattle.kinds.specs.declared.Checked.{Checked}
 use Rattle.kinds.specs.Values.{checkedOf}
 use Rattle.walk.specs.Words.{noWords}
