@@ -1,6 +1,6 @@
 -- The kind of a code: one law for each way through the functions.
-use mathlib.Core.Path.{_≡_, refl, sym, _∙_, ap, ap₂}
-use mathlib.Core.Bool.{Bool, true, false, cond, _&&_, _||_}
+use mathlib.Core.Path.{_≡_, sym, _∙_, ap, ap₂}
+use mathlib.Core.Bool.{Bool, true, false, _&&_}
 use mathlib.Core.List.{List, [], _∷_}
 use Prim.Native.Nat.{ℕ, _+_, _-_, _*_, _≤_, _<_, min}
 use native.Mathlib.Nat.{min-le-right}
@@ -13,26 +13,16 @@ use Rattle.rules.specs.Characters.{isDigit, isLetter, letter, digit, _or_, memb
 use Rattle.rules.specs.Digits.{val}
 use Rattle.rules.specs.Kinds.{dataCodes, kindFrom, starred, kindBetween, kindOf}
 use Rattle.rules.specs.Records.{codeAt}
-use Rattle.rules.proofs.Truth.{both, and, to-within, to≡, of≡, of≢, is-no, or-cond}
-
-pub and-is : (x y : Bool) → (x && y) ≡ x & y
-unfolding _&_
-and-is true y = refl
-and-is false y = refl
+use Rattle.columns.proofs.Loops.{&-is}
+use Rattle.rules.proofs.Truth.{both, and, to-within, to≡, of≡, of≢, is-no}
 
 range-is : (lo hi b : ℕ) → (leb lo b && leb b hi) ≡ within lo hi b
 unfolding within _≤?_
-range-is lo hi b = and-is (leb lo b) (leb b hi)
+range-is lo hi b = sym (&-is (leb lo b) (leb b hi))
 
 pub data-is : (a b : ℕ) → ((leb 48 a && leb a 57) && (leb 48 b && leb b 57)) ≡ isDigit a & isDigit b
 unfolding isDigit
-data-is a b = and-is (leb 48 a && leb a 57) (leb 48 b && leb b 57) ∙ ap₂ _&_ (range-is 48 57 a) (range-is 48 57 b)
-
-pub job-is : (a b : ℕ) → ((leb 65 a && leb a 90) && ((leb 65 b && leb b 90) || (leb 48 b && leb b 57))) ≡ isLetter a & member (letter or digit) b
-unfolding isLetter isDigit member
-job-is a b =
-    and-is (leb 65 a && leb a 90) ((leb 65 b && leb b 90) || (leb 48 b && leb b 57))
-    ∙ ap₂ _&_ (range-is 65 90 a) (or-cond (leb 65 b && leb b 90) (leb 48 b && leb b 57) ∙ ap₂ (λ x y. cond x true y) (range-is 65 90 b) (range-is 48 57 b))
+data-is a b = sym (&-is (leb 48 a && leb a 57) (leb 48 b && leb b 57)) ∙ ap₂ _&_ (range-is 48 57 a) (range-is 48 57 b)
 
 pub digits : (a b : ℕ) → isDigit a & isDigit b ≡ true → (48 ≤ a) × (a ≤ 57) × (48 ≤ b) × (b ≤ 57)
 unfolding isDigit

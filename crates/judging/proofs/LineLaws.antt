@@ -18,13 +18,13 @@ use Rattle.rules.specs.Chapter4.{chapter4}
 use Rattle.rules.proofs.Truth.{both, to≤, of≤, of>, to≡, true-and}
 use Rattle.rules.proofs.RecordLaws.{bytes-length}
 use Rattle.rules.proofs.Conforming.{bytes-of}
+use Rattle.columns.proofs.Loops.{&-is}
 use Rattle.kinds.specs.declared.Judged.{Judged}
 use Rattle.kinds.specs.declared.Expect.the-variants as X
 use Rattle.kinds.specs.Values.{judgedOf, expectOf}
 use Rattle.kinds.proofs.ValueLaws.{good-is}
 use Rattle.judging.specs.Judging.{clean}
 use Rattle.judging.proofs.RowLaws.{bad-then}
-use Rattle.judging.proofs.CodeLaws.{and-is}
 
 module _ (l : List ℕ) where
   pub clean-short : length l ≤ 80 → false ≡ clean l
@@ -33,7 +33,7 @@ module _ (l : List ℕ) where
 
   pub clean-long : 80 < length l → (p : Bool) → p ≡ all (within 32 126) (take 80 l) → (p && eqb (getD l 80 0) 10) ≡ clean l
   unfolding clean isPrintable _=?_
-  clean-long h p e = and-is p (eqb (getD l 80 0) 10) ∙ rw (of≤ {m = 81} {n = length l} h, e) (sym (true-and _))
+  clean-long h p e = sym (&-is p (eqb (getD l 80 0) 10)) ∙ rw (of≤ {m = 81} {n = length l} h, e) (sym (true-and _))
 
   pub clean-good : (t : Bool) → t ≡ clean l → t ≡ true → Judged.Good ≡ judgedOf (bytes 80 1 l)
   unfolding clean

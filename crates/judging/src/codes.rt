@@ -1,10 +1,11 @@
 // Columns 7-10: the kind of a record by its code.
+use kinds::Job;
 use kinds::tables::wide;
 ghost use mathlib.Core.Path.{_≡_};
 ghost use mathlib.Core.Bool.{true};
 ghost use mathlib.Core.List.{_∷_, []};
 ghost use Rattle.rules.specs.Tests.{_&_};
-ghost use Rattle.rules.specs.Characters.{isDigit, isLetter, letter, digit, _or_, member};
+ghost use Rattle.rules.specs.Characters.{isDigit};
 ghost use Rattle.rules.specs.Digits.{val};
 ghost use Rattle.rules.specs.Kinds.{dataCodes, kindFrom, kindBetween, kindOf};
 ghost use Rattle.rules.specs.Records.{codeAt};
@@ -37,12 +38,6 @@ fn is_data(a: u8, b: u8) -> bool
     ((48 <= a) & (a <= 57)) & ((48 <= b) & (b <= 57))
 }
 
-fn is_job(a: u8, b: u8) -> bool
-    ensures { λ r. ⌜ r ≡ isLetter a & member (letter or digit) b ⌝ }
-{
-    ((65 <= a) & (a <= 90)) & (((65 <= b) & (b <= 90)) | ((48 <= b) & (b <= 57)))
-}
-
 fn data_kind(a: u8, b: u8) -> usize
     requires { ⌜ isDigit a & isDigit b ≡ true ⌝ }
     ensures { λ r. ⌜ r ≡ kindFrom 1 (val 0 (a ∷ b ∷ [])) dataCodes ⌝ }
@@ -58,7 +53,7 @@ fn kind_between(a: u8, b: u8) -> usize
     if is_data(a, b) {
         return data_kind(a, b);
     }
-    if is_job(a, b) {
+    if Job::is_code(a, b) {
         return 0;
     }
     14

@@ -6,6 +6,8 @@ use columns::Media;
 pub mod tables;
 
 ghost use mathlib.Core.Path.{_≡_};
+ghost use Rattle.rules.specs.Tests.{_&_};
+ghost use Rattle.rules.specs.Characters.{isLetter, letter, digit, _or_, member};
 
 // Two characters.
 pub struct Two(pub u8, pub u8);
@@ -43,6 +45,14 @@ impl Job {
             first: first,
             second: second,
         }
+    }
+
+    // A letter followed by a letter or digit.
+    pub fn is_code(first: u8, second: u8) -> bool
+        ensures { λ r. ⌜ r ≡ isLetter first & member (letter or digit) second ⌝ }
+    {
+        ((65 <= first) & (first <= 90))
+            & (((65 <= second) & (second <= 90)) | ((48 <= second) & (second <= 57)))
     }
 }
 
@@ -575,6 +585,13 @@ pub enum Record {
     Network(Network),
     Local(Local),
     Factor(Factor),
+}
+
+// The code: columns 7-10 of every record.
+impl Record {
+    pub const CODE: usize = 7;
+
+    pub const CODE_WIDTH: usize = 4;
 }
 
 // A refusal: 01's number, record and column. The number 0 is acceptance.

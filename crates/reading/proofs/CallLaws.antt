@@ -1,22 +1,21 @@
 -- The calls: one law for each way through them, and what their promises say by themselves.
 use mathlib.Core.Path.{_≡_, refl, sym, _∙_, ap}
-use mathlib.Core.Bool.{Bool, true, false, cond, _&&_, false≢true}
+use mathlib.Core.Bool.{Bool, true, false, _&&_}
 use mathlib.Core.List.{List, []}
 use Prim.Native.Nat.{ℕ, _+_, _-_, _*_, _≤_, _<_}
 use native.Mathlib.Omega.{arith}
 use lib.Dec.{leb}
 use lib.ListN.{length, take, drop, getD}
 use Rattle.rules.specs.Tests.{_&_, _≤?_, _=?_, within}
-use Rattle.rules.specs.Items.{gap, valueOf}
+use Rattle.rules.specs.Items.{valueOf}
 use Rattle.rules.specs.Fields.{Verdict, ok, fault, isOk, values}
 use Rattle.rules.specs.Layouts.{layouts, kept, layout}
 use Rattle.rules.specs.Kinds.{kindOf, known}
 use Rattle.rules.specs.Records.{sequence, codeAt, readLine, meaning, formedLine}
 use Rattle.rules.specs.Files.{lineAt, begun}
-use Rattle.rules.specs.Calls.{unread, readAs, readOf, isRead, fieldWidth, widthAsked, fieldOffset, fieldOf}
-use Rattle.rules.specs.Calls as calls
+use Rattle.rules.specs.Calls.{readAs, readOf, isRead, fieldWidth, widthAsked, fieldOffset, fieldOf}
 use Rattle.rules.specs.Chapter4.{chapter4}
-use Rattle.rules.proofs.Truth.{both, and, to≤, of≤, to≡, of≡, of≢, cases, to-within, above-0}
+use Rattle.rules.proofs.Truth.{both, to≤, of≢, cases, to-within, above-0}
 use Rattle.rules.proofs.RecordLaws.{readLine-splits, line-long}
 use Rattle.rules.proofs.Chapter4Laws.{layout-covers}
 use Rattle.rules.proofs.FileLaws.{reaches}
@@ -24,16 +23,16 @@ use Rattle.kinds.specs.declared.Sequence.{Sequence}
 use Rattle.kinds.specs.declared.Record.{Record}
 use Rattle.kinds.specs.declared.Reading.{Reading}
 use Rattle.kinds.specs.declared.Judged.{Judged}
-use Rattle.kinds.specs.Values.{judgedOf, sequenceOf, recordFrom, recordOf, readingOf}
+use Rattle.kinds.specs.Values.{judgedOf, sequenceOf, recordOf, readingOf}
 use Rattle.kinds.proofs.ValueLaws.{good-is, bad-is}
-use Rattle.judging.proofs.CodeLaws.{and-is}
+use Rattle.columns.proofs.Loops.{&-is}
 use Rattle.reading.specs.Values.{recordIn}
 use Rattle.reading.specs.Widths.{widthIn}
 use Rattle.reading.proofs.WidthLaws.{field-inside}
 
 pub there-is : (r n : ℕ) → ((leb 1 r && leb r 99_999) && leb r n) ≡ within 1 99_999 r & r ≤? n
 unfolding within _≤?_
-there-is r n = and-is (leb 1 r && leb r 99_999) (leb r n) ∙ ap (λ t. t & leb r n) (and-is (leb 1 r) (leb r 99_999))
+there-is r n = sym (&-is (leb 1 r && leb r 99_999) (leb r n)) ∙ ap (λ t. t & leb r n) (sym (&-is (leb 1 r) (leb r 99_999)))
 
 -- ---- a line that reads has a known code
 module _ (l : List ℕ) (h : isOk (readLine chapter4 l) ≡ true) where

@@ -1,8 +1,8 @@
 -- The typed values of each kind are those of the line's meaning; and one law for each way through the readers.
 use mathlib.Core.Path.{_≡_, refl, sym, _∙_, ap}
-use mathlib.Core.Bool.{Bool, true, false, cond}
-use mathlib.Core.List.{List, map}
-use Prim.Native.Nat.{ℕ, _+_, _-_, _≤_, _<_}
+use mathlib.Core.Bool.{true, cond}
+use mathlib.Core.List.{List}
+use Prim.Native.Nat.{ℕ, _+_, _-_, _≤_}
 use native.Mathlib.Nat.{add-sub-cancel-left}
 use native.Mathlib.Omega.{arith}
 use lib.IntN.{ℤ, pos, negsuc}
@@ -11,7 +11,7 @@ use lib.ListN.{length, take, drop, getD}
 use Rattle.rules.specs.Tests.{_≤?_}
 use Rattle.rules.specs.Items.{Value, gap, missing, num, text, label, month, media, columns, width, valueOf, number, height, angle}
 use Rattle.rules.specs.Fields.{columnsOf, values}
-use Rattle.rules.specs.Layouts.{at, tied, station, instrument, antenna, initials, state, anyText, metres, letterOrBlank, kept, titled, project, occupation, comment, measurement, receiver, aerial, point, heights, layouts}
+use Rattle.rules.specs.Layouts.{at, tied, station, instrument, antenna, initials, state, anyText, metres, letterOrBlank, project, occupation, comment, measurement, receiver, aerial, point, heights, layouts}
 use Rattle.rules.specs.Records.{sequence, codeAt}
 use Rattle.rules.proofs.Truth.{of≤}
 use Rattle.rules.proofs.FileLaws.{length-take-most}
@@ -35,7 +35,7 @@ use Rattle.columns.specs.declared.Way.{Way}
 use Rattle.kinds.specs.declared.Record.{Record}
 use Rattle.kinds.specs.declared.Record.the-variants as R
 use Rattle.kinds.specs.Values.{textOf, charOf, two, three, sequenceOf, recordFrom}
-use Rattle.reading.specs.Values.{part, natIn, monthIn, heightIn, riseIn, jobIn, projectIn, occupationIn, measurementIn, instrumentIn, antennaIn, pointIn, heightsIn, recordIn}
+use Rattle.reading.specs.Values.{natIn, monthIn, heightIn, riseIn, jobIn, projectIn, occupationIn, measurementIn, instrumentIn, antennaIn, pointIn, heightsIn, recordIn}
 
 -- ---- each kind
 module _ (l : List ℕ) where
@@ -231,7 +231,7 @@ module _ (p q : List ℕ) (e : p ≡ q) (a : ℕ) (x : a ≡ getD p 0 0) where
 -- ---- records put together
 module _ (l : List ℕ) where
   pub job-given : (p : List ℕ) → p ≡ take 4 (drop 6 l) → (a : ℕ) → a ≡ getD p 1 0 → (b : ℕ) → b ≡ getD p 2 0 → {r : Job} → r ≡ record { first = a; second = b } → r ≡ jobIn l
-  unfolding jobIn
+  unfolding jobIn codeAt
   job-given p e a x b y z = z ∙ rw (x, y, e)
 
   pub project-given : (a : ℕ) → a ≡ monthIn 11 l → (b : ℕ) → b ≡ monthIn 17 l → (c : Three) → c ≡ three (take 3 (drop 22 l)) → (d : Three) → d ≡ three (take 3 (drop 43 l)) → (e : Two) → e ≡ two (take 2 (drop 76 l))

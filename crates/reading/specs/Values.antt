@@ -1,9 +1,9 @@
 -- The typed values of a line, each from its own columns.
-use mathlib.Core.Bool.{true, false}
-use mathlib.Core.List.{List, [], _∷_}
-use Prim.Native.Nat.{ℕ, _-_}
+use mathlib.Core.Bool.{true}
+use mathlib.Core.List.{List}
+use Prim.Native.Nat.{ℕ}
 use lib.IntN.{ℤ}
-use lib.ListN.{take, drop, getD}
+use lib.ListN.{getD}
 use Rattle.rules.specs.Items.{gap, number, height, angle, month, media, valueOf}
 use Rattle.rules.specs.Fields.{values}
 use Rattle.rules.specs.Layouts.{layouts, kept}
@@ -21,10 +21,7 @@ use Rattle.kinds.specs.declared.Point.{Point}
 use Rattle.kinds.specs.declared.Heights.{Heights}
 use Rattle.kinds.specs.declared.Record.{Record}
 use Rattle.kinds.specs.Values.{two, three, recordFrom}
-
--- w columns of a line from column c on
-abbrev pub part : ℕ → ℕ → List ℕ → List ℕ
-part c w l = take w (drop (c - 1) l)
+use Rattle.judging.specs.Judging.{part}
 
 unfoldable pub natIn : ℕ → ℕ → List ℕ → ℕ
 natIn c w l = natOf (valueOf (number 0 0 0 true) (part c w l))
@@ -40,7 +37,7 @@ riseIn l = intOf (valueOf (height 0 true) (part 56 5 l))
 
 -- ---- the records
 unfoldable pub jobIn : List ℕ → Job
-jobIn l = record { first = getD (take 4 (drop 6 l)) 1 0; second = getD (take 4 (drop 6 l)) 2 0 }
+jobIn l = record { first = getD (codeAt l) 1 0; second = getD (codeAt l) 2 0 }
 
 unfoldable pub projectIn : List ℕ → Project
 projectIn l = record { began = monthIn 11 l; ended = monthIn 17 l; initials = three (part 23 3 l); second = three (part 44 3 l); state = two (part 77 2 l) }

@@ -11,14 +11,14 @@ use Rattle.rules.specs.Tests.{_≤?_}
 use Rattle.rules.specs.Items.{valueOf}
 use Rattle.rules.specs.Records.{sequence, codeAt}
 use Rattle.rules.specs.Kinds.{kindOf}
-use Rattle.rules.specs.Files.{Result, accept, refuse, isAccept, lines, meanings, verdict, accepted, rewritten}
+use Rattle.rules.specs.Files.{accept, refuse, isAccept, lines, meanings, verdict, accepted, rewritten}
 use Rattle.rules.specs.References.{words}
 use Rattle.rules.specs.Faults.{FirstOf, CallFaults}
 use Rattle.rules.specs.Calls.{outcome, bigTable, bigOutput, answer, tableLeft, outputLeft, checkAnswer, checkTable, rewriteRoom, rewriteAnswer, rewriteTable, rewriteOutput}
 use Rattle.rules.specs.Chapter4.{chapter4}
 use Rattle.rules.specs.Demands.{Demand3}
 use Rattle.rules.proofs.Truth.{both, and, of≤, to≤, no≤, cases}
-use Rattle.rules.proofs.FileLaws.{keeps-length}
+use Rattle.rules.proofs.FileLaws.{is-accept, keeps-length}
 use Rattle.rules.proofs.Chapter4Laws.{sound}
 use Rattle.rules.proofs.ReferenceLaws.{length-words}
 use Rattle.rules.proofs.Bounds.{zero-accepts}
@@ -72,11 +72,6 @@ module _ (f t o : List ℕ) (v : Checked) (u p : List ℕ) (promised : Promised 
     room = λ z. cases (length f ≤? length o) (λ b. (taken f t v u (as-promised (to≤ b)) z, to≤ b)) (λ b. absurd (omega (arith, z, number-bad f v 1 0 0 (tight (no≤ b)))));
     as-check = λ k. demand-2-check f t v u (as-promised k);
   }
-
-is-accept : (x : Result) → isAccept x ≡ true → x ≡ accept
-unfolding isAccept
-is-accept accept h = refl
-is-accept (refuse n r c) h = absurd (false≢true h)
 
 -- ---- a run with room over an accepted file
 module _ (f t o : List ℕ) (v : Checked) (u p : List ℕ) (h : 12_000 ≤ length t) (k : length f ≤ length o) (good : accepted chapter4 f ≡ true) (promised : Promised f t o v u p) where

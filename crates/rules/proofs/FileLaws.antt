@@ -19,6 +19,11 @@ use Rattle.rules.proofs.FieldLaws.{isOk-⨾, isOk-check}
 use Rattle.rules.proofs.RecordLaws.{Sound, judgeLine-splits, line-meant, line-long, style-meaning, style-formed, style-length, style-number}
 
 -- ---- results
+pub is-accept : (v : Result) → isAccept v ≡ true → v ≡ accept
+unfolding isAccept
+is-accept accept h = refl
+is-accept (refuse n r c) h = absurd (false≢true h)
+
 pub inRecord-accept : (r : ℕ) (v : Verdict) (q : Result) → isAccept (inRecord r v q) ≡ isOk v & isAccept q
 unfolding isAccept inRecord isOk _&_
 inRecord-accept r ok q = refl

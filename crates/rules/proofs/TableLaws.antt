@@ -157,7 +157,7 @@ slotter-word ms j h l =
     (one-or-none (hasWord j) families)
 
 -- ---- a table filled by a pass over the records
-length-mark : (r j : ℕ) (t : List ℕ) → length (mark r j t) ≡ length t
+pub length-mark : (r j : ℕ) (t : List ℕ) → length (mark r j t) ≡ length t
 unfolding mark
 length-mark r j t = cases (getD t j 0 =? 0) (λ e. rw e (length-set t j r)) (λ e. rw e)
 

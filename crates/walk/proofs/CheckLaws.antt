@@ -1,17 +1,18 @@
 -- The whole check: what the walk and the references leave together is what the rules say.
-use mathlib.Core.Path.{_≡_, refl, sym, _∙_, ap}
-use mathlib.Core.Bool.{true, false, false≢true}
-use mathlib.Core.List.{List, _++_}
-use Prim.Native.Nat.{ℕ, _+_, _-_, _≤_, _<_}
-use lib.ListN.{length, drop}
-use Rattle.rules.specs.Tests.{_=?_}
+use mathlib.Core.Path.{_≡_, refl, sym, _∙_, ap, ap₂, subst}
+use mathlib.Core.Bool.{true, false, false≢true, Bool, cond}
+use mathlib.Core.List.{List, _++_, [], _∷_}
+use Prim.Native.Nat.{ℕ, _+_, _-_, _≤_, _<_, zero, suc}
+use lib.ListN.{length, drop, take, replicate}
+use Rattle.rules.specs.Tests.{_=?_, _&_, _≤?_}
+use native.Mathlib.Omega.{arith}
 use Rattle.rules.specs.Records.{Meaning}
 use Rattle.rules.specs.Files.{Result, accept, refuse, isAccept, andThen, lines, meanings, walk, refer, verdict, formedLines}
 use Rattle.rules.specs.References.{words}
 use Rattle.rules.specs.Calls.{outcome, bigTable, answer, tableLeft, checkAnswer, checkTable}
 use Rattle.rules.specs.Chapter4.{atStart, chapter4}
-use Rattle.rules.proofs.Truth.{both, of≤, of>, of≡, of≢}
-use Rattle.rules.proofs.FileLaws.{walk-splits, formed-meant}
+use Rattle.rules.proofs.Truth.{both, of≤, of>, of≡, of≢, cases}
+use Rattle.rules.proofs.FileLaws.{walk-splits, formed-meant, is-accept}
 use Rattle.rules.proofs.TableLaws.{filled-is-words}
 use Rattle.rules.proofs.Bounds.{zero-walks, zero-accepts}
 use Rattle.kinds.specs.declared.Checked.{Checked}
@@ -37,11 +38,6 @@ module _ (f t : List ℕ) (h : length t < 12_000) where
   unfolding checkTable tableLeft
   short-table = rw short
 
-is-accept : (x : Result) → isAccept x ≡ true → accept ≡ x
-unfolding isAccept
-is-accept accept h = refl
-is-accept (refuse n r c) h = absurd (false≢true h)
-
 walk-part : (x y : Result) → accept ≡ andThen x y → isAccept x ≡ true
 unfolding isAccept andThen
 walk-part accept y z = refl
@@ -65,7 +61,7 @@ module _ (f t : List ℕ) (v : Checked) (w : Walked chapter4 f v t) where
   pub referable : v .fault .number ≡ 0 → Referable f t v
   referable e =
       let a : isAccept (walk chapter4 atStart 1 (lines f)) ≡ true = through e in
-      record { form = form a; table = full a; accepting = w .first ∙ ap (λ (x : Result). checkedOf (answer x (meanings chapter4 f))) (sym (is-accept _ a)) }
+      record { form = form a; table = full a; accepting = w .first ∙ ap (λ (x : Result). checkedOf (answer x (meanings chapter4 f))) (is-accept _ a) }
 
   -- ---- the verdict
   pub found-here : (v .fault .number ≡ 0 → ⊥) → v ≡ checkedOf (answer (verdict chapter4 f) (meanings chapter4 f))
@@ -79,7 +75,7 @@ module _ (f t : List ℕ) (v : Checked) (w : Walked chapter4 f v t) where
 
   pub found-later : v .fault .number ≡ 0 → {a : Checked} → a ≡ referredOf f → a ≡ checkedOf (answer (verdict chapter4 f) (meanings chapter4 f))
   unfolding verdict referredOf andThen
-  found-later e q = q ∙ rw (← is-accept _ (through e))
+  found-later e q = q ∙ rw (is-accept _ (through e))
 
   -- ---- the words
   pub words-after : (a : Checked) → a ≡ checkedOf (answer (verdict chapter4 f) (meanings chapter4 f)) → {u : List ℕ} → u ≡ settledOf a t → u ≡ tableAfter f

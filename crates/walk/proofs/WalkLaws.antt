@@ -19,7 +19,7 @@ use Rattle.rules.proofs.Truth.{both, and, to≤, to≡, of≡, no≡, of≢, ca
 use Rattle.rules.proofs.FieldLaws.{isOk-⨾, isOk-check}
 use Rattle.rules.proofs.RecordLaws.{judgeLine-splits}
 use Rattle.rules.proofs.FileLaws.{lines-more, lines-none}
-use Rattle.rules.proofs.TableLaws.{count-at}
+use Rattle.rules.proofs.TableLaws.{count-at, length-mark}
 use Rattle.rules.proofs.ReferenceLaws.{stations-in, instruments-in, antennas-in, length-tabulate}
 use Rattle.kinds.specs.declared.Checked.{Checked}
 use Rattle.kinds.specs.Values.{checkedOf}
@@ -149,10 +149,6 @@ bump-below cs k i h f j =
     cases (k =? j)
     (λ a. rw (← to≡ a, getD-set-same cs k (getD cs k 0 + 1) 0 h) (omega (arith, f k)))
     (λ a. rw (getD-set-other cs k j (getD cs k 0 + 1) 0 (λ z. no≡ a (sym z))) (omega (arith, f j)))
-
-length-mark : (r j : ℕ) (t : List ℕ) → length (mark r j t) ≡ length t
-unfolding mark
-length-mark r j t = cases (getD t j 0 =? 0) (λ e. rw e (length-set t j r)) (λ e. rw e)
 
 -- before record i + 1, with the counts cs and the table t
 pub record Going (E : Edition Past) (f : List ℕ) (n : ℕ) (t : List ℕ) (s : Kept) (cs : List ℕ) (i : ℕ) : Type 0 where

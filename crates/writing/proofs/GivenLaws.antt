@@ -1,10 +1,10 @@
 -- What is given to write, as a whole: its code and kind, its judgement, and what the call answers and leaves. Assumes nothing.
 use mathlib.Core.Path.{_≡_, refl, sym, ap, _∙_}
-use mathlib.Core.Bool.{Bool, true, false, _&&_, _||_}
+use mathlib.Core.Bool.{Bool, true, false}
 use mathlib.Core.List.{List, [], _∷_}
 use Prim.Native.Nat.{ℕ, _+_, _≤_, _<_}
 use native.Mathlib.Omega.{arith}
-use lib.Dec.{leb, lit≤}
+use lib.Dec.{lit≤}
 use lib.ListN.{length}
 use borrow.Rule.Slice.PartMut.{putMid}
 use Rattle.rules.specs.Tests.{_&_, _≤?_, _=?_, within, all}
@@ -17,12 +17,11 @@ use Rattle.rules.specs.Kinds.{dataCodes, kindFrom, starred, kindBetween, kindOf
 use Rattle.rules.specs.Layouts.{at, anyText, kept, titled, project, occupation, comment, measurement, receiver, aerial, point, heights, layouts, layout}
 use Rattle.rules.specs.Chapter4.{chapter4}
 use Rattle.rules.specs.Calls.{writeVerdict, writeOutput}
-use Rattle.rules.proofs.Truth.{both, and, of≤, to≡, of≡, of>, of≢, cases, is-no, not-both, to-within, or-cond}
+use Rattle.rules.proofs.Truth.{both, and, of≤, to≡, of≡, of>, of≢, cases, is-no, not-both, to-within}
 use Rattle.rules.proofs.RecordLaws.{write-takes}
 use Rattle.columns.specs.declared.Count.{Count}
 use Rattle.columns.specs.declared.Set.{Set}
 use Rattle.columns.specs.Types.{setOf, countValue, mediaValue}
-use Rattle.columns.proofs.Loops.{&-is}
 use Rattle.kinds.specs.declared.Job.{Job}
 use Rattle.kinds.specs.declared.Occupation.{Occupation}
 use Rattle.kinds.specs.declared.Point.{Point}
@@ -144,27 +143,18 @@ job-of-kind k a =
     (λ h. h ∙ sym (unfold kindNumber in of-kind (R.Job k) a [] [] (code-between k ∙ to≡ h)))
     (λ h. h ∙ sym (is-no (ofKind chapter4 0 (meaningOf (R.Job k) a [] [])) (λ t. not-both (of≡ (sym (code-between k) ∙ job-zero k a t)) h)))
 
-job-test : (k : Job) (a : List ℕ)
-    → (leb 65 (k .first) && leb (k .first) 90 && (leb 65 (k .second) && leb (k .second) 90 || leb 48 (k .second) && leb (k .second) 57))
-    ≡ ofKind chapter4 0 (meaningOf (R.Job k) a [] [])
-job-test k a = spelled (k .first) (k .second) ∙ job-kind (k .first) (k .second) ∙ job-of-kind k a
-  where
-    spelled : (x y : ℕ) → (leb 65 x && leb x 90 && (leb 65 y && leb y 90 || leb 48 y && leb y 57)) ≡ (isLetter x & member (letter or digit) y)
-    spelled x y = unfold isLetter isDigit member within _≤?_ in simp &-is (ap (λ z. leb 65 x && leb x 90 && z) (or-cond (leb 65 y && leb y 90) (leb 48 y && leb y 57)))
-
 job-same : (k : Job) (a : List ℕ) → ofKind chapter4 0 (meaningOf (R.Job k) a [] []) ≡ true
     → check (fits (wordOf 70 Set.Printable) (text a)) 9 11 ≡ judge anything (told chapter4 (meaningOf (R.Job k) a [] []))
 unfolding kindNumber layoutOf layouts kept anyText valuesOf wordOf setOf
 job-same k a h = sym (rw (told-is (R.Job k) a [] [] (job-zero k a h)) (judge-text Set.Printable a))
 
 -- the text is judged only after a good code, whose layout is that of job codes
-pub job-judged : (j : Judged) (k : Job) (a : List ℕ) {s r : Judged}
-    → s ≡ afterOf j (check (leb 65 (k .first) && leb (k .first) 90 && (leb 65 (k .second) && leb (k .second) 90 || leb 48 (k .second) && leb (k .second) 57)) 9 7)
+pub job-judged : (j : Judged) (k : Job) (a : List ℕ) {s r : Judged} {t : Bool} → t ≡ (isLetter (k .first) & member (letter or digit) (k .second)) → s ≡ afterOf j (check t 9 7)
     → r ≡ afterOf s (check (fits (wordOf 70 Set.Printable) (text a)) 9 11) → r ≡ afterOf j (judgeRecord (R.Job k) a [] [])
 unfolding judgeRecord kindNumber
-job-judged j k a d e =
+job-judged j k a h d e =
     let t = ofKind chapter4 0 (meaningOf (R.Job k) a [] []) in
-    e ∙ rw (d, job-test k a) (after-after j (check t 9 7) _ ∙ ap (afterOf j) (⨾-same t 9 7 _ _ (job-same k a)))
+    e ∙ rw (d, h ∙ job-kind (k .first) (k .second) ∙ job-of-kind k a) (after-after j (check t 9 7) _ ∙ ap (afterOf j) (⨾-same t 9 7 _ _ (job-same k a)))
 
 -- a job code has one text
 pub job-arm : (j : Judged) (k : Job) (a b c : List ℕ) {w : Record} → w ≡ R.Job k → afterOf j (judgeRecord (R.Job k) a [] []) ≡ afterOf j (judgeRecord w a b c)

@@ -258,13 +258,11 @@ fn judge_heights(j: Judged, h: Heights, a: &[u8], b: &[u8]) -> Judged
     judge_other_heights(j, h, b)
 }
 
-// A letter followed by a letter or digit; then the text.
+// The code, then the text.
 fn judge_job(j: Judged, k: Job, a: &[u8]) -> Judged
     ensures { λ r. ⌜ r ≡ afterOf j (judgeRecord (R.Job k) (now (a .entry)) [] []) ⌝ }
 {
-    let letter = (65 <= k.first) & (k.first <= 90);
-    let second = ((65 <= k.second) & (k.second <= 90)) | ((48 <= k.second) & (k.second <= 57));
-    let j = judge_test(j, letter & second, 9, 7);
+    let j = judge_test(j, Job::is_code(k.first, k.second), 9, Record::CODE);
     judge_printable(j, a, Job::TEXT_WIDTH, Job::TEXT)
 }
 
