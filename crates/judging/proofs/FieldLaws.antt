@@ -1,8 +1,8 @@
 -- One field of a line: one law for each way through the functions.
-use mathlib.Core.Path.{_≡_, refl, sym, _∙_, ap, subst}
+use mathlib.Core.Path.{_≡_, refl, sym, _∙_, ap}
 use mathlib.Core.Bool.{Bool, true, false, cond, not, _&&_, _||_}
-use mathlib.Core.List.{List, [], _∷_}
-use Prim.Native.Nat.{ℕ, zero, suc, _+_, _-_, _≤_, _<_}
+use mathlib.Core.List.{List}
+use Prim.Native.Nat.{ℕ, _+_, _-_, _≤_}
 use native.Mathlib.Omega.{arith}
 use lib.Dec.{leb, eqb}
 use lib.ListN.{length, take, drop, length-drop}
@@ -11,10 +11,9 @@ use Rattle.rules.specs.Tests.{all, _&_, _≤?_, _=?_}
 use Rattle.rules.specs.Characters.{isBlank}
 use Rattle.rules.specs.Items as rules
 use Rattle.rules.specs.Items.{latitude, longitude, blank, constant, number, height, angle, month, media, word, columns, angleDigits, good, spot}
-use Rattle.rules.specs.Fields.{Expect, Verdict, ok, fault, check, _⨾_, sameTruth, meets}
+use Rattle.rules.specs.Fields.{Expect, check, _⨾_, sameTruth, meets}
 use Rattle.rules.proofs.Truth.{true-and}
 use Rattle.kinds.specs.declared.tables.Item.{Item}
-use Rattle.kinds.specs.declared.tables.Item.the-variants as I
 use Rattle.kinds.specs.declared.tables.Bond.{Bond}
 use Rattle.kinds.specs.declared.tables.Bond.the-variants as B
 use Rattle.kinds.specs.declared.Expect as code
@@ -22,7 +21,7 @@ use Rattle.kinds.specs.declared.Expect.the-variants as X
 use Rattle.kinds.specs.declared.Judged.{Judged}
 use Rattle.kinds.specs.Values.{judgedOf, expectOf}
 use Rattle.kinds.specs.Tables.{itemOf}
-use Rattle.judging.specs.Judging.{part, numberIn, agreesIn, judgeRow, judgeRowAt, sized}
+use Rattle.judging.specs.Judging.{part, numberIn, agreesIn, judgeRow, sized}
 
 -- ---- by what stands in the field
 module _ (j : Item) (bs : List ℕ) {i : Item} {r : Bool} where
@@ -55,6 +54,14 @@ truth-is true false = refl
 truth-is false true = refl
 truth-is false false = refl
 
+-- ---- an earlier field's columns
+module _ (l p : List ℕ) (c w v : ℕ) (e : v ≡ w) where
+  pub earlier-none : c ≡ 0 → p ≡ take v (drop 0 l) → p ≡ part c w l
+  earlier-none z q = q ∙ rw (e, z)
+
+  pub earlier-there : (u : ℕ) → u ≡ c → p ≡ take v (drop (u - 1) l) → p ≡ part c w l
+  earlier-there u z q = q ∙ rw (e, z)
+
 -- ---- agreement, by the bond
 module _ (e : Expect) (l bs : List ℕ) {b : Bond} where
   pub agrees-free : b ≡ B.Free → true ≡ agreesIn e l b bs
@@ -65,21 +72,14 @@ module _ (e : Expect) (l bs : List ℕ) {b : Bond} where
   unfolding agreesIn
   agrees-expected z v p q = rw z (q ∙ ap (meets e) p)
 
-  pub agrees-began : b ≡ B.NotBegan → (u : ℕ) → u ≡ numberIn (part 11 6 l) → (v : ℕ) → v ≡ numberIn bs → leb u v ≡ agreesIn e l b bs
-  unfolding agreesIn _≤?_
-  agrees-began z u p v q = rw (z, p, q)
+  module _ (c w : ℕ) (p : List ℕ) where
+    pub agrees-before : b ≡ B.NotBefore c w → p ≡ part c w l → (u : ℕ) → u ≡ numberIn p → (v : ℕ) → v ≡ numberIn bs → leb u v ≡ agreesIn e l b bs
+    unfolding agreesIn _≤?_
+    agrees-before z x u y v q = rw (z, y, q, x)
 
-  pub agrees-orthometric : b ≡ B.WithOrthometric → (u : Bool) → u ≡ all isBlank (part 17 7 l) → (v : Bool) → v ≡ all isBlank bs → {r : Bool} → r ≡ sameTruth u v → r ≡ agreesIn e l b bs
-  unfolding agreesIn
-  agrees-orthometric z u p v q o = rw z (o ∙ rw (p, q))
-
-  pub agrees-geoid : b ≡ B.WithGeoid → (u : Bool) → u ≡ all isBlank (part 36 7 l) → (v : Bool) → v ≡ all isBlank bs → {r : Bool} → r ≡ sameTruth u v → r ≡ agreesIn e l b bs
-  unfolding agreesIn
-  agrees-geoid z u p v q o = rw z (o ∙ rw (p, q))
-
-  pub agrees-ellipsoid : b ≡ B.WithEllipsoid → (u : Bool) → u ≡ all isBlank (part 46 7 l) → (v : Bool) → v ≡ all isBlank bs → {r : Bool} → r ≡ sameTruth u v → r ≡ agreesIn e l b bs
-  unfolding agreesIn
-  agrees-ellipsoid z u p v q o = rw z (o ∙ rw (p, q))
+    pub agrees-with : b ≡ B.GoesWith c w → p ≡ part c w l → (u : Bool) → u ≡ all isBlank p → (v : Bool) → v ≡ all isBlank bs → {r : Bool} → r ≡ sameTruth u v → r ≡ agreesIn e l b bs
+    unfolding agreesIn
+    agrees-with z x u y v q o = rw z (o ∙ rw (y, q, x))
 
 at-most : (b : Bool) (n : ℕ) → n ≤ 12 → cond b n 0 ≤ 12
 at-most true n h = h

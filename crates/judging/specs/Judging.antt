@@ -26,10 +26,8 @@ numberIn bs = cond (length bs ≤? 16) (val 0 bs) 0
 unfoldable pub agreesIn : Expect → List ℕ → Bond → List ℕ → Bool
 agreesIn e l B.Free bs = true
 agreesIn e l B.Expected bs = meets e (numberIn bs)
-agreesIn e l B.NotBegan bs = numberIn (part 11 6 l) ≤? numberIn bs
-agreesIn e l B.WithOrthometric bs = sameTruth (all isBlank (part 17 7 l)) (all isBlank bs)
-agreesIn e l B.WithGeoid bs = sameTruth (all isBlank (part 36 7 l)) (all isBlank bs)
-agreesIn e l B.WithEllipsoid bs = sameTruth (all isBlank (part 46 7 l)) (all isBlank bs)
+agreesIn e l (B.NotBefore c w) bs = numberIn (part c w l) ≤? numberIn bs
+agreesIn e l (B.GoesWith c w) bs = sameTruth (all isBlank (part c w l)) (all isBlank bs)
 
 -- a number's columns are at most sixteen
 unfoldable pub sized : Item → Bool

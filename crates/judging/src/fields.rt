@@ -8,6 +8,7 @@ use columns::labels::good_media;
 use columns::numbers::good_month;
 use columns::numbers::good_number;
 use columns::numbers::value_of;
+use columns::parts::middle;
 use columns::sets::all_blank;
 use columns::sets::good_blank;
 use columns::sets::good_constant;
@@ -33,7 +34,7 @@ ghost use Rattle.rules.specs.Fields.{read, judge, meets, sameTruth};
 ghost use Rattle.rules.specs.Layouts.{layouts, kept};
 ghost use Rattle.kinds.specs.Tables.{itemOf};
 ghost use Rattle.kinds.specs.Values.{judgedOf, expectOf};
-ghost use Rattle.judging.specs.Judging.{agreesIn, judgeRow, judgeRowAt, sized};
+ghost use Rattle.judging.specs.Judging.{part, agreesIn, judgeRow, judgeRowAt, sized};
 
 // Of its kind and range.
 fn good_item(item: Item, part: &[u8]) -> bool
@@ -117,18 +118,25 @@ pub fn same_truth(a: bool, b: bool) -> bool
     (a & b) | (!a & !b)
 }
 
+// The columns of an earlier field.
+fn earlier(line: &[u8], first: u8, width: u8) -> &[u8]
+    ensures { λ r. ⌜ now r ≡ part first width (now (line .entry)) ⌝ }
+{
+    if first == 0 {
+        return middle(line, 0, wide(width));
+    }
+    middle(line, wide(first) - 1, wide(width))
+}
+
 // In agreement with what stands before it in the line, and with what went before in the file.
 fn agrees_item(e: Expect, line: &[u8], bond: Bond, part: &[u8]) -> bool
-    requires { ⌜ 80 ≤ length (now line) ⌝ }
     ensures { λ r. ⌜ r ≡ agreesIn (expectOf e) (now (line .entry)) bond (now (part .entry)) ⌝ }
 {
     match bond {
         Bond::Free => true,
         Bond::Expected => is_met(e, value_of(part)),
-        Bond::NotBegan => value_of(&line[10..16]) <= value_of(part),
-        Bond::WithOrthometric => same_truth(all_blank(&line[16..23]), all_blank(part)),
-        Bond::WithGeoid => same_truth(all_blank(&line[35..42]), all_blank(part)),
-        Bond::WithEllipsoid => same_truth(all_blank(&line[45..52]), all_blank(part)),
+        Bond::NotBefore(c, w) => value_of(earlier(line, c, w)) <= value_of(part),
+        Bond::GoesWith(c, w) => same_truth(all_blank(earlier(line, c, w)), all_blank(part)),
     }
 }
 

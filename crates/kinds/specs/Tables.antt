@@ -1,5 +1,5 @@
 -- The code's tables: the layouts of `rules` with names of the code's own for what stands in each field and what it agrees with.
-use mathlib.Core.Bool.{Bool, true, false}
+use mathlib.Core.Bool.{true, false}
 use mathlib.Core.List.{List, [], _∷_, _++_, map}
 use Prim.Native.Nat.{ℕ}
 use lib.ListN.{getD}
@@ -43,10 +43,8 @@ itemOf I.Printable w = word w (each (setOf Set.Printable))
 abbrev pub bondOf : Bond → fields.Bond
 bondOf B.Free = free
 bondOf B.Expected = expected
-bondOf B.NotBegan = notBefore 11
-bondOf B.WithOrthometric = goesWith 17
-bondOf B.WithGeoid = goesWith 36
-bondOf B.WithEllipsoid = goesWith 46
+bondOf (B.NotBefore c w) = notBefore c
+bondOf (B.GoesWith c w) = goesWith c
 
 pub record Row : Type 0 where
   pub item : Item
@@ -69,14 +67,14 @@ rowLists =
     (row I.Printable 11 70 ∷ [])
     ∷ (row I.Title 11 70 ∷ [])
     ∷ (row I.Title 11 70 ∷ [])
-    ∷ (row I.Month 11 6 ∷ tied I.Month 17 6 B.NotBegan ∷ row I.LetterOrSpace 23 3 ∷ row I.Name 26 18 ∷ row I.LetterOrSpace 44 3 ∷ row I.Name 47 18 ∷ row I.Blank 65 11 ∷ row I.Method 76 1 ∷ row I.Letter 77 2 ∷ row I.Blank 79 2 ∷ [])
+    ∷ (row I.Month 11 6 ∷ tied I.Month 17 6 (B.NotBefore 11 6) ∷ row I.LetterOrSpace 23 3 ∷ row I.Name 26 18 ∷ row I.LetterOrSpace 44 3 ∷ row I.Name 47 18 ∷ row I.Blank 65 11 ∷ row I.Method 76 1 ∷ row I.Letter 77 2 ∷ row I.Blank 79 2 ∷ [])
     ∷ (row I.Station 11 4 ∷ row I.Media 15 10 ∷ row I.LetterOrSpace 25 3 ∷ row I.Equipment 28 3 ∷ row I.Blank 31 2 ∷ row I.Equipment 33 3 ∷ row I.Blank 36 45 ∷ [])
     ∷ (row I.Printable 11 70 ∷ [])
     ∷ (tied I.Station 11 4 B.Expected ∷ row I.Date 15 6 ∷ row I.Time 21 4 ∷ row I.Blank 25 31 ∷ row I.Rise 56 5 ∷ row I.Blank 61 20 ∷ [])
     ∷ (tied I.Equipment 11 3 B.Expected ∷ row I.Equipment 14 3 ∷ row I.Blank 17 6 ∷ row I.Printable 23 18 ∷ row I.Blank 41 22 ∷ row I.Printable 63 8 ∷ row I.Printable 71 10 ∷ [])
     ∷ (tied I.Equipment 11 3 B.Expected ∷ row I.Blank 14 3 ∷ row I.Printable 17 16 ∷ row I.Letter 33 4 ∷ row I.Blank 37 8 ∷ row I.Printable 45 20 ∷ row I.Blank 65 16 ∷ [])
     ∷ (row I.Station 11 4 ∷ row I.Printable 15 30 ∷ row I.Latitude 45 12 ∷ row I.Longitude 57 13 ∷ row I.Blank 70 7 ∷ row I.Letter 77 2 ∷ row I.Blank 79 2 ∷ [])
-    ∷ (tied I.Station 11 4 B.Expected ∷ row I.Blank 15 2 ∷ row I.Metres 17 7 ∷ tied I.LetterOrSpace 24 1 B.WithOrthometric ∷ row I.Pair 25 2 ∷ tied I.YesNoOrSpace 27 1 B.WithOrthometric ∷ row I.Datum 28 2 ∷ row I.Printable 30 6 ∷ row I.Metres 36 7 ∷ tied I.LetterOrDigitOrSpace 43 1 B.WithGeoid ∷ row I.Blank 44 2 ∷ row I.Metres 46 7 ∷ tied I.LetterOrSpace 53 1 B.WithEllipsoid ∷ row I.Blank 54 2 ∷ row I.LetterOrSpace 56 1 ∷ row I.Printable 57 24 ∷ [])
+    ∷ (tied I.Station 11 4 B.Expected ∷ row I.Blank 15 2 ∷ row I.Metres 17 7 ∷ tied I.LetterOrSpace 24 1 (B.GoesWith 17 7) ∷ row I.Pair 25 2 ∷ tied I.YesNoOrSpace 27 1 (B.GoesWith 17 7) ∷ row I.Datum 28 2 ∷ row I.Printable 30 6 ∷ row I.Metres 36 7 ∷ tied I.LetterOrDigitOrSpace 43 1 (B.GoesWith 36 7) ∷ row I.Blank 44 2 ∷ row I.Metres 46 7 ∷ tied I.LetterOrSpace 53 1 (B.GoesWith 46 7) ∷ row I.Blank 54 2 ∷ row I.LetterOrSpace 56 1 ∷ row I.Printable 57 24 ∷ [])
     ∷ (row I.Printable 11 70 ∷ [])
     ∷ (row I.Printable 11 70 ∷ [])
     ∷ (row I.Printable 11 70 ∷ [])

@@ -45,14 +45,13 @@ pub enum Item {
     Printable,
 }
 
-// What a field must agree with: nothing; what went before in the file; the month that work began; whether a height is missing.
+// What a field must agree with: nothing; what went before in the file; an earlier field, by its first column and width, that is not after it,
+// or that is missing exactly when it is blank.
 pub enum Bond {
     Free,
     Expected,
-    NotBegan,
-    WithOrthometric,
-    WithGeoid,
-    WithEllipsoid,
+    NotBefore(u8, u8),
+    GoesWith(u8, u8),
 }
 
 const ITEMS: [Item; 67] = [
@@ -130,7 +129,7 @@ const BONDS: [Bond; 67] = [
     Bond::Free,
     Bond::Free,
     Bond::Free,
-    Bond::NotBegan,
+    Bond::NotBefore(Project::BEGAN as u8, Project::BEGAN_WIDTH as u8),
     Bond::Free,
     Bond::Free,
     Bond::Free,
@@ -177,16 +176,16 @@ const BONDS: [Bond; 67] = [
     Bond::Expected,
     Bond::Free,
     Bond::Free,
-    Bond::WithOrthometric,
+    Bond::GoesWith(Heights::ORTHOMETRIC as u8, Heights::ORTHOMETRIC_WIDTH as u8),
     Bond::Free,
-    Bond::WithOrthometric,
-    Bond::Free,
-    Bond::Free,
-    Bond::Free,
-    Bond::WithGeoid,
+    Bond::GoesWith(Heights::ORTHOMETRIC as u8, Heights::ORTHOMETRIC_WIDTH as u8),
     Bond::Free,
     Bond::Free,
-    Bond::WithEllipsoid,
+    Bond::Free,
+    Bond::GoesWith(Heights::GEOID as u8, Heights::GEOID_WIDTH as u8),
+    Bond::Free,
+    Bond::Free,
+    Bond::GoesWith(Heights::ELLIPSOID as u8, Heights::ELLIPSOID_WIDTH as u8),
     Bond::Free,
     Bond::Free,
     Bond::Free,

@@ -9,8 +9,8 @@ use lib.Dec.{leb, eqb}
 use lib.ListN.{length, getD, take, drop}
 use lib.Seq.{drop-cons}
 use borrow.Author.Tests.{leb-true, eqb-true}
-use Rattle.rules.specs.Tests.{_&_, _≤?_, all}
-use Rattle.rules.proofs.Truth.{both, and, to≤, true-and, &-assoc, under, tried}
+use Rattle.rules.specs.Tests.{_&_, _≤?_, _=?_, all}
+use Rattle.rules.proofs.Truth.{both, and, to≤, to≡, true-and, &-assoc, under, tried}
 use Rattle.quick.specs.Rows.{Class, inClass, col, rowOk, spelled, colAt}
 
 -- ---- tests with the bare connectives of the code
@@ -114,3 +114,30 @@ row-drop (suc n) (k ∷ ks) (b ∷ bs) h = row-drop n ks bs (both h .1)
 
 pub row-part : (n m : ℕ) (ks : List Class) (l : List ℕ) → rowOk ks l ≡ true → rowOk (take m (drop n ks)) (drop n l) ≡ true
 row-part n m ks l h = row-take m (drop n ks) (drop n l) (row-drop n ks l h)
+
+-- ---- rows of the same classes fit the same lines
+unfoldable pub sameClass : Class → Class → Bool
+sameClass j k = j .low =? k .low & j .high =? k .high & j .other =? k .other & j .also =? k .also & j .free =? k .free
+
+unfoldable pub sameRow : List Class → List Class → Bool
+sameRow [] [] = true
+sameRow [] (k ∷ ks) = false
+sameRow (j ∷ js) [] = false
+sameRow (j ∷ js) (k ∷ ks) = sameClass j k & sameRow js ks
+
+same-class : (j k : Class) (b c : ℕ) → sameClass j k ≡ true → col j b c ≡ col k b c
+unfolding sameClass col inClass
+same-class j k b c h =
+    let x = both h in
+    let y = both (x .0) in
+    let z = both (y .0) in
+    let t = both (z .0) in
+    rw (to≡ (t .0), to≡ (t .1), to≡ (z .1), to≡ (y .1), to≡ (x .1))
+
+pub same-row : (js ks : List Class) → sameRow js ks ≡ true → (l : List ℕ) → rowOk js l ≡ true → rowOk ks l ≡ true
+unfolding sameRow rowOk
+same-row [] [] s l h = refl
+same-row [] (k ∷ ks) s l h = absurd (false≢true s)
+same-row (j ∷ js) [] s l h = refl
+same-row (j ∷ js) (k ∷ ks) s [] h = absurd (false≢true h)
+same-row (j ∷ js) (k ∷ ks) s (b ∷ bs) h = and (sym (same-class j k b (getD bs 0 0) (both s .0)) ∙ both h .0) (same-row js ks (both s .1) bs (both h .1))

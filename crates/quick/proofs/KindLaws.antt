@@ -2,25 +2,24 @@
 use mathlib.Core.Path.{_≡_, refl, sym, ap, _∙_, subst}
 use mathlib.Core.Bool.{Bool, true, _&&_, _||_, false≢true}
 use mathlib.Core.List.{List, [], _∷_, map}
-use Prim.Native.Nat.{ℕ, zero, suc, _+_, _-_, _≤_, _<_}
+use Prim.Native.Nat.{ℕ, zero, suc, _-_, _≤_, _<_}
 use native.Mathlib.Omega.{arith}
-use lib.Dec.{leb, eqb, lit≤}
-use lib.ListN.{length, getD, take, drop, replicate, length-drop}
-use lib.Seq.{length-take-le, getD-drop}
+use lib.Dec.{leb, eqb}
+use lib.ListN.{length, getD, take, replicate}
+use lib.Seq.{length-take-le}
 use borrow.Author.Tests.{leb-true, eqb-true}
 use Rattle.rules.specs.Tests.{_&_, _≤?_, _=?_, within, all}
-use Rattle.rules.specs.Characters.{isBlank, isDigit, isPrintable}
+use Rattle.rules.specs.Characters.{isDigit, isPrintable}
 use Rattle.rules.specs.Fields.{Expect, isOk}
 use Rattle.rules.proofs.Truth.{both, and, to≤, to≡, of-within, all-at}
 use Rattle.rules.proofs.Conforming.{bytes-of}
 use Rattle.kinds.specs.Tables.{Row, rowLists}
-use Rattle.kinds.proofs.TableLaws.{each-kind}
 use Rattle.judging.proofs.RowLaws.{rows-judge}
 use Rattle.quick.specs.Rows.{Class, inClass, rowOk, run, texts, layoutRow, leadRow, kindRow, spelled, classTable, colAt, Columns}
 use Rattle.quick.specs.Rest.{sequenceRest, restFrom, Fit}
-use Rattle.quick.proofs.ClassLaws.{both-true, one-true, admits, in-class, row-split, row-part, columns-row}
-use Rattle.quick.proofs.NumberLaws.{even, sequence-ok, metres-tell}
-use Rattle.quick.proofs.RecordLaws.{asked, withHeight, bound, withs, laid, Told, rows-ok}
+use Rattle.quick.proofs.ClassLaws.{both-true, one-true, admits, in-class, row-split, columns-row, sameRow, sameClass}
+use Rattle.quick.proofs.NumberLaws.{even, sequence-ok}
+use Rattle.quick.proofs.RecordLaws.{asked, height, bound, laid, rows-ok}
 
 -- ---- a class of printable characters
 unfoldable fair : Class → Bool
@@ -47,10 +46,10 @@ fair-row (k ∷ ks) (b ∷ bs) f h = and (fair-printable k b (both f .0) (in-cla
 
 -- ---- the table: one computed test of every kind
 unfoldable tidy : List Row → Bool
-tidy rs = length (kindRow rs) =? 80 & all fair (kindRow rs) & laid 10 rs
+tidy rs = length (kindRow rs) =? 80 & all fair (kindRow rs) & laid (kindRow rs) 10 rs
 
 all-tidy : all tidy rowLists ≡ true
-unfolding tidy all fair laid asked bound admits even inClass isDigit within _&_ _≤?_ _=?_
+unfolding tidy all fair laid asked bound height sameRow sameClass admits even inClass isDigit within _&_ _≤?_ _=?_
 all-tidy = refl
 
 map-at : {A : Type 0} {B : Type 0} (f : A → B) (l : List A) (d : A) (e : B) (k : ℕ) → k < length l → getD (map f l) k e ≡ f (getD l k d)
@@ -65,7 +64,7 @@ rowFor k = kindRow (getD rowLists k [])
 record Kind (k : ℕ) : Type 0 where
   size : length (rowFor k) ≡ 80
   fair-is : all fair (rowFor k) ≡ true
-  lies : laid 10 (getD rowLists k []) ≡ true
+  lies : laid (rowFor k) 10 (getD rowLists k []) ≡ true
 
 kind-is : (k : ℕ) → k < 14 → Kind k
 unfolding tidy
@@ -73,28 +72,6 @@ kind-is k h =
     let t = both (all-at tidy rowLists [] k all-tidy h) in
     let u = both (t .0) in
     record { size = to≡ (u .0); fair-is = u .1; lies = t .1 }
-
--- ---- an *86*: each height tells by its last column whether it is missing
-module _ (l : List ℕ) (long : 80 ≤ length l) where
-  tell : (n : ℕ) → n + 7 ≤ 80 → rowOk (run 45 32 7) (drop n l) ≡ true → all isBlank (take 7 (drop n l)) ≡ eqb (getD l (n + 6) 0) 32
-  tell n q h = metres-tell 6 (drop n l) (length-take-le 7 (drop n l) (rw length-drop (omega arith))) h ∙ ap (λ b. eqb b 32) (getD-drop n l 6 0)
-
-  told : rowOk (rowFor 10) l ≡ true → Told l
-  told h = record {
-    orthometric = tell 16 (lit≤ tt) (row-part 16 7 (rowFor 10) l h);
-    geoid = tell 35 (lit≤ tt) (row-part 35 7 (rowFor 10) l h);
-    ellipsoid = tell 45 (lit≤ tt) (row-part 45 7 (rowFor 10) l h);
-  }
-
-  abbrev Asks : ℕ → Type 0
-  Asks k = rowOk (rowFor k) l ≡ true → withs (getD rowLists k []) ≡ true → Told l
-
-  asks : (k : ℕ) → k < 14 → Asks k
-  unfolding withs withHeight
-  asks = each-kind Asks (λ h x. absurd (false≢true x)) (λ h x. absurd (false≢true x)) (λ h x. absurd (false≢true x)) (λ h x. absurd (false≢true x))
-      (λ h x. absurd (false≢true x)) (λ h x. absurd (false≢true x)) (λ h x. absurd (false≢true x)) (λ h x. absurd (false≢true x))
-      (λ h x. absurd (false≢true x)) (λ h x. absurd (false≢true x)) (λ h x. told h) (λ h x. absurd (false≢true x))
-      (λ h x. absurd (false≢true x)) (λ h x. absurd (false≢true x))
 
 -- ---- a line of a kind
 pub fits-ok : (e : Expect) (l : List ℕ) (k : ℕ) → 1 ≤ k → k < 14 → 80 < length l → getD l 80 0 ≡ 10 → rowOk (rowFor k) l ≡ true → sequenceRest l ≡ true
@@ -104,7 +81,7 @@ fits-ok e l k low high long end h s t =
     let rs = getD rowLists k [] in
     let two = both (sym (row-split leadRow (layoutRow rs) l) ∙ h) in
     let six = both (sym (row-split (run 32 32 6) (replicate 4 texts) l) ∙ two .0) .0 in
-    let r = rows-ok e l (omega arith) rs 10 true (K .lies) (two .1) (asks l (omega arith) k high h) t in
+    let r = rows-ok e (rowFor k) l (omega arith) h rs 10 true (K .lies) (two .1) t in
     record {
       low = low;
       high = omega arith;

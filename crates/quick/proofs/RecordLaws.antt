@@ -1,17 +1,17 @@
 -- A record: a line that its kind's row fits, and that passes what the row leaves, has no fault. One law for each item and for each agreement; kinds are a table.
 use mathlib.Core.Path.{_≡_, refl, sym, ap, _∙_, subst}
-use mathlib.Core.Bool.{Bool, true, false, cond, not, _&&_, false≢true}
+use mathlib.Core.Bool.{Bool, true, false, not, _&&_, false≢true}
 use mathlib.Core.List.{List, [], _∷_}
-use Prim.Native.Nat.{ℕ, suc, _+_, _-_, _^_, _≤_}
+use Prim.Native.Nat.{ℕ, zero, suc, _+_, _-_, _^_, _≤_}
 use native.Mathlib.Omega.{arith}
 use lib.Dec.{eqb}
 use lib.ListN.{length, getD, take, drop, length-drop}
 use lib.Seq.{length-take-le, drop-drop, getD-drop}
-use Rattle.rules.specs.Tests.{_&_, _≤?_, _=?_, all}
+use Rattle.rules.specs.Tests.{_&_, _≤?_, _=?_, within, all}
 use Rattle.rules.specs.Characters.{isBlank}
 use Rattle.rules.specs.Items.{number, good}
 use Rattle.rules.specs.Fields.{Expect, isOk, sameTruth, meets, check, _⨾_}
-use Rattle.rules.proofs.Truth.{both, and, to≤, to≡, and-true}
+use Rattle.rules.proofs.Truth.{both, and, to≤, to≡, to-within, and-true}
 use Rattle.rules.proofs.FieldLaws.{isOk-⨾}
 use Rattle.columns.specs.Types.{setOf}
 use Rattle.kinds.specs.declared.tables.Item.{Item}
@@ -20,10 +20,10 @@ use Rattle.kinds.specs.declared.tables.Bond.{Bond}
 use Rattle.kinds.specs.declared.tables.Bond.the-variants as B
 use Rattle.kinds.specs.Tables.{itemOf, Row}
 use Rattle.judging.specs.Judging.{part, numberIn, agreesIn, judgeRow, judgeRows}
-use Rattle.quick.specs.Rows.{run, rowOk, rowOf, layoutRow}
+use Rattle.quick.specs.Rows.{Class, run, rowOk, rowOf, layoutRow}
 use Rattle.quick.specs.Rest.{lowVal, some, between, notZero, mediaRest, zeros, latitudeRest, longitudeRest, alike, datumRest, itemRest, bondRest, restFrom}
-use Rattle.quick.proofs.ClassLaws.{both-true, admits, all-columns, row-split}
-use Rattle.quick.proofs.NumberLaws.{even, number-even, number-ok, some-val, low-val, metres-ok, rise-ok}
+use Rattle.quick.proofs.ClassLaws.{both-true, admits, all-columns, row-split, row-part, sameRow, same-row}
+use Rattle.quick.proofs.NumberLaws.{even, number-even, number-ok, some-val, low-val, metres-ok, metres-tell, rise-ok}
 use Rattle.quick.proofs.WordLaws.{blank-ok, letters-ok, spaced-ok, yes-no-ok, texts-ok, one-ok, pair-ok, datum-ok, media-ok}
 use Rattle.quick.proofs.AngleLaws.{latitude-ok, longitude-ok}
 
@@ -119,27 +119,26 @@ item-ok I.Pair w l a g q n h t = let e : w ≡ 2 = to≡ q in let p = both-true 
 item-ok I.Datum w l a g q n h t = let e : w ≡ 2 = to≡ q in let p = both-true g (datumRest l a) t in record { before = p .0; here = rw e (datum-ok (drop a l) (rw e at h) (datum-drop l a (p .1))) }
 
 -- ---- agreement
-pub record Told (l : List ℕ) : Type 0 where
-  pub orthometric : all isBlank (part 17 7 l) ≡ eqb (getD l 22 0) 32
-  pub geoid : all isBlank (part 36 7 l) ≡ eqb (getD l 41 0) 32
-  pub ellipsoid : all isBlank (part 46 7 l) ≡ eqb (getD l 51 0) 32
-
-unfoldable pub withHeight : Bond → Bool
-withHeight B.Free = false
-withHeight B.Expected = false
-withHeight B.NotBegan = false
-withHeight B.WithOrthometric = true
-withHeight B.WithGeoid = true
-withHeight B.WithEllipsoid = true
+-- a height stands in v columns from column c on of a record with the row ks
+unfoldable pub height : List Class → ℕ → ℕ → Bool
+height ks c v = within 1 80 c & 1 ≤? v & c + v ≤? 81 & sameRow (take v (drop (c - 1) ks)) (run 45 32 v)
 
 -- what is compared as a number is read alike by the last four bits; what goes with a height has one column
-unfoldable pub bound : Bond → Item → ℕ → Bool
-bound B.Free i w = true
-bound B.Expected i w = all (admits even) (rowOf i w) & w ≤? 16
-bound B.NotBegan i w = true
-bound B.WithOrthometric i w = w =? 1
-bound B.WithGeoid i w = w =? 1
-bound B.WithEllipsoid i w = w =? 1
+unfoldable pub bound : List Class → Bond → Item → ℕ → Bool
+bound ks B.Free i w = true
+bound ks B.Expected i w = all (admits even) (rowOf i w) & w ≤? 16
+bound ks (B.NotBefore c v) i w = true
+bound ks (B.GoesWith c v) i w = height ks c v & w =? 1
+
+-- a height tells by its last column whether it is missing
+height-tells : (ks : List Class) (l : List ℕ) (c v : ℕ) → 80 ≤ length l → rowOk ks l ≡ true → height ks c v ≡ true → all isBlank (part c v l) ≡ eqb (getD l (c + v - 2) 0) 32
+unfolding height
+height-tells ks l c zero long h q = absurd (omega (arith, to≤ (both (both (both q .0) .0) .1)))
+height-tells ks l c (suc v) long h q =
+    let t = both (both (both q .0) .0) in
+    let n : length (take (suc v) (drop (c - 1) l)) ≡ suc v = length-take-le (suc v) (drop (c - 1) l) (rw length-drop (omega (arith, to-within (t .0), to≤ (both (both q .0) .1)))) in
+    let last : c - 1 + v ≡ c + suc v - 2 = omega (arith, to-within (t .0)) in
+    metres-tell v (drop (c - 1) l) n (same-row _ _ (both q .1) (drop (c - 1) l) (row-part (c - 1) (suc v) ks l h)) ∙ ap (λ b. eqb b 32) (getD-drop (c - 1) l v 0 ∙ ap (λ i. getD l i 0) last)
 
 one-blank : (l : List ℕ) (a w : ℕ) → w ≡ 1 → length (take w (drop a l)) ≡ w → all isBlank (take w (drop a l)) ≡ eqb (getD l a 0) 32
 one-blank l a w e n = rw e (blank-one (drop a l) (rw e at n) ∙ ap (λ b. eqb b 32) (at-0 l a))
@@ -164,38 +163,32 @@ number-is l a w i q m n h =
     let few : length B ≤? 16 ≡ true = rw n (both q .1) in
     low-val 0 B same ∙ sym (rw few)
 
-bond-ok : (e : Expect) (l : List ℕ) (b : Bond) (i : Item) (w a : ℕ) (g : Bool) → bound b i w ≡ true → length (rowOf i w) ≡ w → length (take w (drop a l)) ≡ w → rowOk (rowOf i w) (drop a l) ≡ true
-    → (withHeight b ≡ true → Told l) → bondRest g e b a w l ≡ true → Both g (agreesIn e l b (take w (drop a l)))
-unfolding bound withHeight bondRest agreesIn
-bond-ok e l B.Free i w a g q m n h o t = record { before = t; here = refl }
-bond-ok e l B.Expected i w a g q m n h o t =
+bond-ok : (e : Expect) (ks : List Class) (l : List ℕ) → 80 ≤ length l → rowOk ks l ≡ true → (b : Bond) (i : Item) (w a : ℕ) (g : Bool) → bound ks b i w ≡ true → length (rowOf i w) ≡ w
+    → length (take w (drop a l)) ≡ w → rowOk (rowOf i w) (drop a l) ≡ true → bondRest g e b a w l ≡ true → Both g (agreesIn e l b (take w (drop a l)))
+unfolding bound bondRest agreesIn
+bond-ok e ks l long o B.Free i w a g q m n h t = record { before = t; here = refl }
+bond-ok e ks l long o B.Expected i w a g q m n h t =
     let p = both-true g (meets e (lowVal 0 (take w (drop a l)))) t in
     record { before = p .0; here = sym (ap (meets e) (number-is l a w i q m n h)) ∙ p .1 }
-bond-ok e l B.NotBegan i w a g q m n h o t = absurd (false≢true t)
-bond-ok e l B.WithOrthometric i w a g q m n h o t = alike-is g l 22 a w (all isBlank (part 17 7 l)) (o refl .orthometric) (to≡ q) n t
-bond-ok e l B.WithGeoid i w a g q m n h o t = alike-is g l 41 a w (all isBlank (part 36 7 l)) (o refl .geoid) (to≡ q) n t
-bond-ok e l B.WithEllipsoid i w a g q m n h o t = alike-is g l 51 a w (all isBlank (part 46 7 l)) (o refl .ellipsoid) (to≡ q) n t
+bond-ok e ks l long o (B.NotBefore c v) i w a g q m n h t = absurd (false≢true t)
+bond-ok e ks l long o (B.GoesWith c v) i w a g q m n h t = alike-is g l (c + v - 2) a w (all isBlank (part c v l)) (height-tells ks l c v long o (both q .0)) (to≡ (both q .1)) n t
 
--- ---- all rows of a record
-unfoldable pub withs : List Row → Bool
-withs [] = false
-withs (r ∷ rs) = cond (withHeight (r .bond)) true (withs rs)
-
-unfoldable pub laid : ℕ → List Row → Bool
-laid a [] = true
-laid a (r ∷ rs) =
-    r .first =? a + 1 & a + r .width ≤? 80 & asked (r .item) (r .width) & bound (r .bond) (r .item) (r .width) & length (rowOf (r .item) (r .width)) =? r .width
-    & laid (a + r .width) rs
+-- ---- all rows of a record with the row ks
+unfoldable pub laid : List Class → ℕ → List Row → Bool
+laid ks a [] = true
+laid ks a (r ∷ rs) =
+    r .first =? a + 1 & a + r .width ≤? 80 & asked (r .item) (r .width) & bound ks (r .bond) (r .item) (r .width) & length (rowOf (r .item) (r .width)) =? r .width
+    & laid ks (a + r .width) rs
 
 row-good : (e : Expect) (l : List ℕ) (i : Item) (b : Bond) (c w : ℕ) → good (itemOf i w) (part c w l) ≡ true → agreesIn e l b (part c w l) ≡ true → isOk (judgeRow e l i b c w) ≡ true
 unfolding judgeRow check _⨾_ isOk
 row-good e l i b c w h k = rw (h, k)
 
-pub rows-ok : (e : Expect) (l : List ℕ) → 80 ≤ length l → (rs : List Row) (a : ℕ) (g : Bool) → laid a rs ≡ true → rowOk (layoutRow rs) (drop a l) ≡ true → (withs rs ≡ true → Told l)
+pub rows-ok : (e : Expect) (ks : List Class) (l : List ℕ) → 80 ≤ length l → rowOk ks l ≡ true → (rs : List Row) (a : ℕ) (g : Bool) → laid ks a rs ≡ true → rowOk (layoutRow rs) (drop a l) ≡ true
     → restFrom g e l rs ≡ true → Both g (isOk (judgeRows e l rs))
-unfolding laid withs restFrom judgeRows isOk
-rows-ok e l long [] a g q h o t = record { before = t; here = refl }
-rows-ok e l long (r ∷ rs) a g q h o t =
+unfolding laid restFrom judgeRows isOk
+rows-ok e ks l long o [] a g q h t = record { before = t; here = refl }
+rows-ok e ks l long o (r ∷ rs) a g q h t =
     let w = r .width in
     let i = r .item in
     let q1 = both q in
@@ -208,12 +201,8 @@ rows-ok e l long (r ∷ rs) a g q h o t =
     let n : length (take w (drop a l)) ≡ w = length-take-le w (drop a l) (rw length-drop (omega (arith, to≤ (q5 .1)))) in
     let s = both (sym (row-split (rowOf i w) (layoutRow rs) (drop a l)) ∙ h) in
     let rest : rowOk (layoutRow rs) (drop (a + w) l) ≡ true = subst (λ x. rowOk (layoutRow rs) x ≡ true) (ap (λ k. drop k (drop a l)) m ∙ drop-drop w a l) (s .1) in
-    let next = rows-ok e l long rs (a + w) (bondRest (itemRest g i (r .first - 1) w l) e (r .bond) (r .first - 1) w l) (q1 .1) rest (λ x. o (later (withHeight (r .bond)) x)) t in
-    let b = bond-ok e l (r .bond) i w a (itemRest g i a w l) (q3 .1) m n (s .0) (λ x. o (ap (λ y. cond y true (withs rs)) x)) (rw c at (next .before)) in
+    let next = rows-ok e ks l long o rs (a + w) (bondRest (itemRest g i (r .first - 1) w l) e (r .bond) (r .first - 1) w l) (q1 .1) rest t in
+    let b = bond-ok e ks l long o (r .bond) i w a (itemRest g i a w l) (q3 .1) m n (s .0) (rw c at (next .before)) in
     let f = item-ok i w l a g (q4 .1) n (s .0) (b .before) in
     let p : part (r .first) w l ≡ take w (drop a l) = ap (λ k. take w (drop k l)) c in
     record { before = f .before; here = isOk-⨾ _ _ ∙ and (row-good e l i (r .bond) (r .first) w (rw p (f .here)) (rw p (b .here))) (next .here) }
-  where
-    later : (x : Bool) {y : Bool} → y ≡ true → cond x true y ≡ true
-    later true h = refl
-    later false h = h

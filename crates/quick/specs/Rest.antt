@@ -86,14 +86,12 @@ itemRest g I.Title a w l = false
 itemRest g I.Name a w l = false
 itemRest g I.Printable a w l = g
 
--- g, and what is left of an agreement: a height is missing exactly where its last column is blank
+-- g, and what is left of an agreement: a height is missing exactly where its last column is blank; v columns from c on end at index c + v - 2
 unfoldable pub bondRest : Bool → Expect → Bond → ℕ → ℕ → List ℕ → Bool
 bondRest g e B.Free a w l = g
 bondRest g e B.Expected a w l = g && meets e (lowVal 0 (take w (drop a l)))
-bondRest g e B.NotBegan a w l = false
-bondRest g e B.WithOrthometric a w l = g && alike l 22 a
-bondRest g e B.WithGeoid a w l = g && alike l 41 a
-bondRest g e B.WithEllipsoid a w l = g && alike l 51 a
+bondRest g e (B.NotBefore c v) a w l = false
+bondRest g e (B.GoesWith c v) a w l = g && alike l (c + v - 2) a
 
 -- g, and what is left of the fields of a record
 unfoldable pub restFrom : Bool → Expect → List ℕ → List Row → Bool
