@@ -1,5 +1,6 @@
 // Columns 7-10: the kind of a record by its code.
 use kinds::Job;
+use kinds::Record;
 use kinds::tables::wide;
 ghost use mathlib.Core.Path.{_≡_};
 ghost use mathlib.Core.Bool.{true};
@@ -63,14 +64,15 @@ fn kind_between(a: u8, b: u8) -> usize
 pub fn kind_at(line: &[u8]) -> usize
     ensures { λ r. ⌜ r ≡ kindOf (codeAt (now (line .entry))) ⌝ }
 {
-    if line.len() < 10 {
+    let at = Record::CODE - 1;
+    if line.len() < at + Record::CODE_WIDTH {
         return 14;
     }
-    if line[6] != 42 {
+    if line[at] != 42 {
         return 14;
     }
-    if line[9] != 42 {
+    if line[at + 3] != 42 {
         return 14;
     }
-    kind_between(line[7], line[8])
+    kind_between(line[at + 1], line[at + 2])
 }

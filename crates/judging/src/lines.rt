@@ -6,6 +6,8 @@ use columns::numbers::good_number;
 use columns::sets::all_within;
 use kinds::Expect;
 use kinds::Judged;
+use kinds::Record;
+use kinds::Sequence;
 ghost use mathlib.Core.Path.{_≡_};
 ghost use mathlib.Core.Bool.{true};
 ghost use mathlib.Core.List.{map};
@@ -44,7 +46,9 @@ fn has_number(line: &[u8]) -> bool
     requires { ⌜ 80 ≤ length (now line) ⌝ }
     ensures { λ r. ⌜ r ≡ good sequence (take 6 (now (line .entry))) ⌝ }
 {
-    good_number(&line[0..6], 1, 999_999, true)
+    let at = Sequence::NUMBER - 1;
+    let end = at + Sequence::NUMBER_WIDTH;
+    good_number(&line[at..end], 1, 999_999, true)
 }
 
 // Columns 1-6, then the fields of the kind.
@@ -55,7 +59,7 @@ pub fn judge_rest(line: &[u8], kind: usize, e: Expect) -> Judged
     if has_number(line) {
         return judge_fields(line, kind, e);
     }
-    Judged::Bad(9, 1)
+    Judged::Bad(9, Sequence::NUMBER)
 }
 
 // A record by itself, as read judges it.
@@ -68,7 +72,7 @@ pub fn judge_alone(line: &[u8]) -> Judged
     }
     let kind = kind_at(line);
     if 13 < kind {
-        return Judged::Bad(6, 7);
+        return Judged::Bad(6, Record::CODE);
     }
     judge_rest(line, kind, Expect::Anything)
 }

@@ -41,7 +41,7 @@ ghost use Rattle.reading.specs.Values.{natIn, monthIn, riseIn, heightIn,
 pub fn read_sequence(line: &[u8]) -> Sequence
     ensures { λ r. ⌜ r ≡ sequenceOf (valueOf sequence (take 6 (now (line .entry)))) ⌝ }
 {
-    match read_count(middle(line, 0, 6)) {
+    match read_count(middle(line, Sequence::NUMBER - 1, Sequence::NUMBER_WIDTH)) {
         Count::Missing => Sequence::Missing,
         Count::Is(n) => Sequence::Number(n),
     }
@@ -78,14 +78,14 @@ fn month_in(line: &[u8], first: usize) -> u32
     requires { ⌜ 1 ≤ first ⌝ }
     ensures { λ r. ⌜ r ≡ monthIn first (now (line .entry)) ⌝ }
 {
-    read_month(middle(line, first - 1, 6))
+    read_month(middle(line, first - 1, Project::BEGAN_WIDTH))
 }
 
 fn height_in(line: &[u8], first: usize) -> Height
     requires { ⌜ 1 ≤ first ⌝ }
     ensures { λ r. ⌜ r ≡ heightIn first (now (line .entry)) ⌝ }
 {
-    read_height(middle(line, first - 1, 7))
+    read_height(middle(line, first - 1, Heights::ORTHOMETRIC_WIDTH))
 }
 
 // A height that is never missing.
@@ -132,7 +132,7 @@ fn char_in(line: &[u8], first: usize) -> u8
 fn read_job(line: &[u8]) -> Job
     ensures { λ r. ⌜ r ≡ jobIn (now (line .entry)) ⌝ }
 {
-    let code = middle(line, 6, 4);
+    let code = middle(line, Record::CODE - 1, Record::CODE_WIDTH);
     Job::new(byte_at(code, 1), byte_at(code, 2))
 }
 
@@ -194,8 +194,22 @@ fn read_point(line: &[u8]) -> Point
 {
     Point::new(
         number_in(line, Point::STATION, Point::STATION_WIDTH),
-        read_angle(middle(line, Point::LATITUDE - 1, 12), Way::Latitude),
-        read_angle(middle(line, Point::LONGITUDE - 1, 13), Way::Longitude),
+        read_angle(
+            middle(
+                line,
+                Point::LATITUDE - 1,
+                Point::LATITUDE_WIDTH + Point::LATITUDE_LETTER_WIDTH,
+            ),
+            Way::Latitude,
+        ),
+        read_angle(
+            middle(
+                line,
+                Point::LONGITUDE - 1,
+                Point::LONGITUDE_WIDTH + Point::LONGITUDE_LETTER_WIDTH,
+            ),
+            Way::Longitude,
+        ),
         two_in(line, Point::STATE),
     )
 }

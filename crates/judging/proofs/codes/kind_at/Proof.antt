@@ -7,11 +7,16 @@ pub kind-at-spec : {M : Type 1} → statement M
 kind-at-spec =
     tie.close
     (tie.spec
+    (λ c. search needs)
+    (λ c. search needs)
     (λ c. search (too-short, needs))
     (λ c. search needs)
     (λ c. search (no-first, needs))
     (λ c. search needs)
+    (λ c. search needs)
     (λ c. search (no-last, needs))
+    (λ c. search needs)
+    (λ c. search needs)
     (λ c. search needs)
     (λ c. search needs)
     (λ c κs. search needs)
