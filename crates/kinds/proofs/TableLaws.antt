@@ -1,5 +1,5 @@
 -- The code's rows are the layouts of `rules`, kind by kind, and the flat tables are the rows one kind after the other.
-use mathlib.Core.Path.{_≡_, refl, _∙_}
+use mathlib.Core.Path.{_≡_, refl, sym, ap, _∙_}
 use mathlib.Core.Bool.{Bool, true}
 use mathlib.Core.List.{[], _∷_, map}
 use Prim.Native.Nat.{ℕ, zero, suc, _+_, _≤_, _<_}
@@ -9,15 +9,17 @@ use lib.Dec.{lit≤}
 use lib.ListN.{getD, List·getD-map}
 use lib.Seq.{slice, slice-cons}
 use Rattle.rules.specs.Tests.{all}
-use Rattle.rules.specs.Layouts.{at, tied, station, instrument, antenna, initials, state, anyText, metres, letterOrBlank, kept, titled, project, occupation, comment, measurement, receiver, aerial, point, heights, layouts}
+use Rattle.rules.specs.Layouts.{layouts}
 use Rattle.rules.proofs.Truth.{all-at}
 use Rattle.columns.specs.Types.{wayOf, setOf}
 use Rattle.kinds.specs.declared.tables.Item.the-variants as I
+use Rattle.kinds.specs.declared.tables.Bond.{Bond}
 use Rattle.kinds.specs.declared.tables.Bond.the-variants as B
-use Rattle.kinds.specs.Tables.{Row, row, fieldOf, rowLists, rows, rowAt, items, bonds, firsts, widths, starts}
+use Rattle.kinds.specs.declared.tables.Tie.{Tie}
+use Rattle.kinds.specs.Tables.{bondAs, Row, row, fieldOf, rowLists, rows, rowAt, items, ties, bonds, firsts, widths, starts}
 
 pub rows-are-layouts : map (map fieldOf) rowLists ≡ layouts
-unfolding fieldOf wayOf setOf layouts kept titled project occupation comment measurement receiver aerial point heights at tied station instrument antenna initials state anyText metres letterOrBlank
+unfolding fieldOf wayOf setOf layouts
 rows-are-layouts = refl
 
 -- a fact of each of the fourteen kinds
@@ -71,6 +73,10 @@ module _ (i : ℕ) where
   pub width-is : getD widths i 0 ≡ rowAt i .width
   unfolding rowAt
   width-is = List·getD-map (λ (r : Row). r .width) rows i (row I.Blank 0 0)
+
+-- a bond by its name
+pub bond-named : (i : ℕ) (t : Tie) → t ≡ getD ties i Tie.Free → (u : Tie) → t ≡ u → {b : Bond} → b ≡ bondAs u → b ≡ getD bonds i B.Free
+bond-named i t e u z q = q ∙ ap bondAs (sym z ∙ e) ∙ sym (List·getD-map bondAs ties i Tie.Free)
 
 -- a test of every row, at row i
 pub row-passes : (p : Row → Bool) → all p rows ≡ true → (i : ℕ) → i < 67 → p (rowAt i) ≡ true

@@ -1,14 +1,12 @@
 -- A record made of values and texts is the record that its meaning gives back.
-use mathlib.Core.Path.{_≡_, refl, sym, _∙_, ap}
-use mathlib.Core.Bool.{true, false, cond}
-use mathlib.Core.List.{List, [], _∷_}
+use mathlib.Core.Path.{_≡_, refl, _∙_, ap}
+use mathlib.Core.List.{List}
 use Prim.Native.Nat.{ℕ}
 use lib.ListN.{getD}
-use lib.IntN.{pos}
 use Rattle.rules.specs.Tests.{_&_, _≤?_, _=?_, within}
-use Rattle.rules.specs.Characters.{ascii, isDigit, isLetter, member}
+use Rattle.rules.specs.Characters.{ascii, isDigit, isLetter}
 use Rattle.rules.specs.Digits.{val}
-use Rattle.rules.specs.Items.{Value, gap}
+use Rattle.rules.specs.Items.{gap}
 use Rattle.rules.specs.Fields.{Verdict, ok, fault}
 use Rattle.rules.specs.Kinds.{dataCodes, kindFrom, starred, kindBetween, kindOf}
 use Rattle.columns.specs.Types.{natOf, intOf, mediaOf, mediaValue, four, fourOf}

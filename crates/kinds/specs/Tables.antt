@@ -14,6 +14,8 @@ use Rattle.kinds.specs.declared.tables.Item.{Item}
 use Rattle.kinds.specs.declared.tables.Item.the-variants as I
 use Rattle.kinds.specs.declared.tables.Bond.{Bond}
 use Rattle.kinds.specs.declared.tables.Bond.the-variants as B
+use Rattle.kinds.specs.declared.tables.Tie.{Tie}
+use Rattle.kinds.specs.declared.tables.Tie.the-variants as T
 
 -- what stands in a field of w columns
 abbrev pub itemOf : Item → ℕ → rules.Item
@@ -46,17 +48,27 @@ bondOf B.Expected = expected
 bondOf (B.NotBefore c w) = notBefore c
 bondOf (B.GoesWith c w) = goesWith c
 
+-- the bonds by name
+abbrev pub bondAs : Tie → Bond
+bondAs T.Free = B.Free
+bondAs T.Expected = B.Expected
+bondAs T.Began = B.NotBefore 11 6
+bondAs T.Orthometric = B.GoesWith 17 7
+bondAs T.Geoid = B.GoesWith 36 7
+bondAs T.Ellipsoid = B.GoesWith 46 7
+
 pub record Row : Type 0 where
   pub item : Item
+  pub tie : Tie
   pub bond : Bond
   pub first : ℕ
   pub width : ℕ
 
 abbrev pub row : Item → ℕ → ℕ → Row
-row i c w = record { item = i; bond = B.Free; first = c; width = w }
+row i c w = record { item = i; tie = T.Free; bond = B.Free; first = c; width = w }
 
-abbrev pub tied : Item → ℕ → ℕ → Bond → Row
-tied i c w b = record { item = i; bond = b; first = c; width = w }
+abbrev pub tied : Item → ℕ → ℕ → Tie → Row
+tied i c w t = record { item = i; tie = t; bond = bondAs t; first = c; width = w }
 
 unfoldable pub fieldOf : Row → Field
 fieldOf r = record { from = r .first; item = itemOf (r .item) (r .width); bond = bondOf (r .bond) }
@@ -67,14 +79,14 @@ rowLists =
     (row I.Printable 11 70 ∷ [])
     ∷ (row I.Title 11 70 ∷ [])
     ∷ (row I.Title 11 70 ∷ [])
-    ∷ (row I.Month 11 6 ∷ tied I.Month 17 6 (B.NotBefore 11 6) ∷ row I.LetterOrSpace 23 3 ∷ row I.Name 26 18 ∷ row I.LetterOrSpace 44 3 ∷ row I.Name 47 18 ∷ row I.Blank 65 11 ∷ row I.Method 76 1 ∷ row I.Letter 77 2 ∷ row I.Blank 79 2 ∷ [])
+    ∷ (row I.Month 11 6 ∷ tied I.Month 17 6 T.Began ∷ row I.LetterOrSpace 23 3 ∷ row I.Name 26 18 ∷ row I.LetterOrSpace 44 3 ∷ row I.Name 47 18 ∷ row I.Blank 65 11 ∷ row I.Method 76 1 ∷ row I.Letter 77 2 ∷ row I.Blank 79 2 ∷ [])
     ∷ (row I.Station 11 4 ∷ row I.Media 15 10 ∷ row I.LetterOrSpace 25 3 ∷ row I.Equipment 28 3 ∷ row I.Blank 31 2 ∷ row I.Equipment 33 3 ∷ row I.Blank 36 45 ∷ [])
     ∷ (row I.Printable 11 70 ∷ [])
-    ∷ (tied I.Station 11 4 B.Expected ∷ row I.Date 15 6 ∷ row I.Time 21 4 ∷ row I.Blank 25 31 ∷ row I.Rise 56 5 ∷ row I.Blank 61 20 ∷ [])
-    ∷ (tied I.Equipment 11 3 B.Expected ∷ row I.Equipment 14 3 ∷ row I.Blank 17 6 ∷ row I.Printable 23 18 ∷ row I.Blank 41 22 ∷ row I.Printable 63 8 ∷ row I.Printable 71 10 ∷ [])
-    ∷ (tied I.Equipment 11 3 B.Expected ∷ row I.Blank 14 3 ∷ row I.Printable 17 16 ∷ row I.Letter 33 4 ∷ row I.Blank 37 8 ∷ row I.Printable 45 20 ∷ row I.Blank 65 16 ∷ [])
+    ∷ (tied I.Station 11 4 T.Expected ∷ row I.Date 15 6 ∷ row I.Time 21 4 ∷ row I.Blank 25 31 ∷ row I.Rise 56 5 ∷ row I.Blank 61 20 ∷ [])
+    ∷ (tied I.Equipment 11 3 T.Expected ∷ row I.Equipment 14 3 ∷ row I.Blank 17 6 ∷ row I.Printable 23 18 ∷ row I.Blank 41 22 ∷ row I.Printable 63 8 ∷ row I.Printable 71 10 ∷ [])
+    ∷ (tied I.Equipment 11 3 T.Expected ∷ row I.Blank 14 3 ∷ row I.Printable 17 16 ∷ row I.Letter 33 4 ∷ row I.Blank 37 8 ∷ row I.Printable 45 20 ∷ row I.Blank 65 16 ∷ [])
     ∷ (row I.Station 11 4 ∷ row I.Printable 15 30 ∷ row I.Latitude 45 12 ∷ row I.Longitude 57 13 ∷ row I.Blank 70 7 ∷ row I.Letter 77 2 ∷ row I.Blank 79 2 ∷ [])
-    ∷ (tied I.Station 11 4 B.Expected ∷ row I.Blank 15 2 ∷ row I.Metres 17 7 ∷ tied I.LetterOrSpace 24 1 (B.GoesWith 17 7) ∷ row I.Pair 25 2 ∷ tied I.YesNoOrSpace 27 1 (B.GoesWith 17 7) ∷ row I.Datum 28 2 ∷ row I.Printable 30 6 ∷ row I.Metres 36 7 ∷ tied I.LetterOrDigitOrSpace 43 1 (B.GoesWith 36 7) ∷ row I.Blank 44 2 ∷ row I.Metres 46 7 ∷ tied I.LetterOrSpace 53 1 (B.GoesWith 46 7) ∷ row I.Blank 54 2 ∷ row I.LetterOrSpace 56 1 ∷ row I.Printable 57 24 ∷ [])
+    ∷ (tied I.Station 11 4 T.Expected ∷ row I.Blank 15 2 ∷ row I.Metres 17 7 ∷ tied I.LetterOrSpace 24 1 T.Orthometric ∷ row I.Pair 25 2 ∷ tied I.YesNoOrSpace 27 1 T.Orthometric ∷ row I.Datum 28 2 ∷ row I.Printable 30 6 ∷ row I.Metres 36 7 ∷ tied I.LetterOrDigitOrSpace 43 1 T.Geoid ∷ row I.Blank 44 2 ∷ row I.Metres 46 7 ∷ tied I.LetterOrSpace 53 1 T.Ellipsoid ∷ row I.Blank 54 2 ∷ row I.LetterOrSpace 56 1 ∷ row I.Printable 57 24 ∷ [])
     ∷ (row I.Printable 11 70 ∷ [])
     ∷ (row I.Printable 11 70 ∷ [])
     ∷ (row I.Printable 11 70 ∷ [])
@@ -93,6 +105,9 @@ rowAt i = getD rows i (row I.Blank 0 0)
 
 abbrev pub items : List Item
 items = map (λ r. r .item) rows
+
+abbrev pub ties : List Tie
+ties = map (λ r. r .tie) rows
 
 abbrev pub bonds : List Bond
 bonds = map (λ r. r .bond) rows

@@ -1,9 +1,8 @@
 -- The code's types as 01's numbers and values: for each case of each enum the definition that the promises use.
-use mathlib.Core.Bool.{Bool, true, false, cond}
 use mathlib.Core.List.{List, [], _∷_}
 use Prim.Native.Nat.{ℕ}
-use lib.ListN.{length, getD}
-use lib.IntN.{ℤ, pos, negsuc}
+use lib.ListN.{getD}
+use lib.IntN.{pos, negsuc}
 use Rattle.rules.specs.Characters.{ascii}
 use Rattle.rules.specs.Items.{Value, gap, missing, num, text, label}
 use Rattle.rules.specs.Fields.{Verdict, ok, fault}
@@ -11,7 +10,6 @@ use Rattle.rules.specs.Fields as fields
 use Rattle.rules.specs.Records.{Meaning}
 use Rattle.rules.specs.Kinds.{kindOf}
 use Rattle.rules.specs.Calls as calls
-use Rattle.columns.specs.declared.Height.{Height}
 use Rattle.columns.specs.Types.{natOf, intOf, heightOf, heightValue, mediaOf, mediaValue, four, fourOf}
 use Rattle.kinds.specs.declared.Two.{Two}
 use Rattle.kinds.specs.declared.Three.{Three}

@@ -18,7 +18,7 @@ use crate::Title;
 ghost use mathlib.Core.Path.{_≡_};
 ghost use Prim.Native.Nat.{_<_};
 ghost use lib.ListN.{getD};
-ghost use Rattle.kinds.specs.Tables.{items, bonds, firsts, widths, starts};
+ghost use Rattle.kinds.specs.Tables.{items, ties, bonds, firsts, widths, starts};
 
 // What stands in a field.
 pub enum Item {
@@ -52,6 +52,16 @@ pub enum Bond {
     Expected,
     NotBefore(u8, u8),
     GoesWith(u8, u8),
+}
+
+// The bonds by name, since a table of names is not copied where it is indexed.
+pub enum Tie {
+    Free,
+    Expected,
+    Began,
+    Orthometric,
+    Geoid,
+    Ellipsoid,
 }
 
 const ITEMS: [Item; 67] = [
@@ -124,74 +134,74 @@ const ITEMS: [Item; 67] = [
     Item::Printable,
 ];
 
-const BONDS: [Bond; 67] = [
-    Bond::Free,
-    Bond::Free,
-    Bond::Free,
-    Bond::Free,
-    Bond::NotBefore(Project::BEGAN as u8, Project::BEGAN_WIDTH as u8),
-    Bond::Free,
-    Bond::Free,
-    Bond::Free,
-    Bond::Free,
-    Bond::Free,
-    Bond::Free,
-    Bond::Free,
-    Bond::Free,
-    Bond::Free,
-    Bond::Free,
-    Bond::Free,
-    Bond::Free,
-    Bond::Free,
-    Bond::Free,
-    Bond::Free,
-    Bond::Free,
-    Bond::Expected,
-    Bond::Free,
-    Bond::Free,
-    Bond::Free,
-    Bond::Free,
-    Bond::Free,
-    Bond::Expected,
-    Bond::Free,
-    Bond::Free,
-    Bond::Free,
-    Bond::Free,
-    Bond::Free,
-    Bond::Free,
-    Bond::Expected,
-    Bond::Free,
-    Bond::Free,
-    Bond::Free,
-    Bond::Free,
-    Bond::Free,
-    Bond::Free,
-    Bond::Free,
-    Bond::Free,
-    Bond::Free,
-    Bond::Free,
-    Bond::Free,
-    Bond::Free,
-    Bond::Free,
-    Bond::Expected,
-    Bond::Free,
-    Bond::Free,
-    Bond::GoesWith(Heights::ORTHOMETRIC as u8, Heights::ORTHOMETRIC_WIDTH as u8),
-    Bond::Free,
-    Bond::GoesWith(Heights::ORTHOMETRIC as u8, Heights::ORTHOMETRIC_WIDTH as u8),
-    Bond::Free,
-    Bond::Free,
-    Bond::Free,
-    Bond::GoesWith(Heights::GEOID as u8, Heights::GEOID_WIDTH as u8),
-    Bond::Free,
-    Bond::Free,
-    Bond::GoesWith(Heights::ELLIPSOID as u8, Heights::ELLIPSOID_WIDTH as u8),
-    Bond::Free,
-    Bond::Free,
-    Bond::Free,
-    Bond::Free,
-    Bond::Free,
-    Bond::Free,
+const TIES: [Tie; 67] = [
+    Tie::Free,
+    Tie::Free,
+    Tie::Free,
+    Tie::Free,
+    Tie::Began,
+    Tie::Free,
+    Tie::Free,
+    Tie::Free,
+    Tie::Free,
+    Tie::Free,
+    Tie::Free,
+    Tie::Free,
+    Tie::Free,
+    Tie::Free,
+    Tie::Free,
+    Tie::Free,
+    Tie::Free,
+    Tie::Free,
+    Tie::Free,
+    Tie::Free,
+    Tie::Free,
+    Tie::Expected,
+    Tie::Free,
+    Tie::Free,
+    Tie::Free,
+    Tie::Free,
+    Tie::Free,
+    Tie::Expected,
+    Tie::Free,
+    Tie::Free,
+    Tie::Free,
+    Tie::Free,
+    Tie::Free,
+    Tie::Free,
+    Tie::Expected,
+    Tie::Free,
+    Tie::Free,
+    Tie::Free,
+    Tie::Free,
+    Tie::Free,
+    Tie::Free,
+    Tie::Free,
+    Tie::Free,
+    Tie::Free,
+    Tie::Free,
+    Tie::Free,
+    Tie::Free,
+    Tie::Free,
+    Tie::Expected,
+    Tie::Free,
+    Tie::Free,
+    Tie::Orthometric,
+    Tie::Free,
+    Tie::Orthometric,
+    Tie::Free,
+    Tie::Free,
+    Tie::Free,
+    Tie::Geoid,
+    Tie::Free,
+    Tie::Free,
+    Tie::Ellipsoid,
+    Tie::Free,
+    Tie::Free,
+    Tie::Free,
+    Tie::Free,
+    Tie::Free,
+    Tie::Free,
 ];
 
 const FIRSTS: [u8; 67] = [
@@ -351,11 +361,39 @@ pub fn item_at(i: usize) -> Item
     ITEMS[i]
 }
 
+fn tie_at(i: usize) -> Tie
+    requires { ⌜ i < 67 ⌝ }
+    ensures { λ r. ⌜ r ≡ getD ties i Tie.Free ⌝ }
+{
+    TIES[i]
+}
+
+fn not_before(first: usize, width: usize) -> Bond
+    requires { ⌜ (first < 256) × (width < 256) ⌝ }
+    ensures { λ r. ⌜ r ≡ Bond.NotBefore first width ⌝ }
+{
+    Bond::NotBefore(first as u8, width as u8)
+}
+
+fn goes_with(first: usize, width: usize) -> Bond
+    requires { ⌜ (first < 256) × (width < 256) ⌝ }
+    ensures { λ r. ⌜ r ≡ Bond.GoesWith first width ⌝ }
+{
+    Bond::GoesWith(first as u8, width as u8)
+}
+
 pub fn bond_at(i: usize) -> Bond
     requires { ⌜ i < 67 ⌝ }
     ensures { λ r. ⌜ r ≡ getD bonds i Bond.Free ⌝ }
 {
-    BONDS[i]
+    match tie_at(i) {
+        Tie::Free => Bond::Free,
+        Tie::Expected => Bond::Expected,
+        Tie::Began => not_before(Project::BEGAN, Project::BEGAN_WIDTH),
+        Tie::Orthometric => goes_with(Heights::ORTHOMETRIC, Heights::ORTHOMETRIC_WIDTH),
+        Tie::Geoid => goes_with(Heights::GEOID, Heights::GEOID_WIDTH),
+        Tie::Ellipsoid => goes_with(Heights::ELLIPSOID, Heights::ELLIPSOID_WIDTH),
+    }
 }
 
 pub fn first_at(i: usize) -> u8
