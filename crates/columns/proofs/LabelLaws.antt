@@ -4,14 +4,14 @@ use mathlib.Core.Bool.{Bool, true, false, cond, _&&_, _||_, and-assoc, and-true}
 use mathlib.Core.List.{List, [], _∷_, _++_}
 use Prim.Native.Nat.{ℕ, _+_, _/_, _%_, _≤_}
 use native.Mathlib.Omega.{arith}
-use lib.Dec.{leb, eqb}
+use lib.Dec.{leb}
 use lib.ListN.{length, getD, take, drop, length-drop}
 use lib.Seq.{getD-drop}
 use lib.IntN.{pos}
 use Rattle.rules.specs.Tests.{_&_, _≤?_, _=?_, within, all}
 use Rattle.rules.specs.Digits.{val, put}
 use Rattle.rules.specs.Characters.{isPrintable, isDigit, isLetter, letter, digit, _or_, member}
-use Rattle.rules.specs.Items.{month, media, num, label, isMonth, isMedia, onNumber, onLabel, width, shape, valueOf, fits, render, good}
+use Rattle.rules.specs.Items.{month, media, num, isMonth, isMedia, onNumber, onLabel, width, shape, valueOf, fits, render, good}
 use Rattle.rules.proofs.Truth.{true-and, both, of≡, to≡, to≤, no≡, cases, of≢, or-cond}
 use Rattle.columns.specs.Types.{four, fourOf, mediaOf, mediaValue}
 use Rattle.columns.specs.Leaves.{written}

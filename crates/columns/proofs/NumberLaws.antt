@@ -1,18 +1,17 @@
 -- Numbers and heights: the form column by column is the form, its last column tells a blank one, and whatever has the form fits its own width. Assumes nothing.
-use mathlib.Core.Path.{_≡_, refl, sym, ap, _∙_, subst}
+use mathlib.Core.Path.{_≡_, refl, sym, ap, _∙_}
 use mathlib.Core.Bool.{Bool, true, false, cond, not, _&&_, _||_, and-false, or-true, or-false, false≢true}
 use mathlib.Core.List.{List, [], _∷_}
-use Prim.Native.Nat.{ℕ, suc, _+_, _-_, _*_, _^_, _≤_, _<_}
+use Prim.Native.Nat.{ℕ, suc, _-_, _^_, _≤_, _<_}
 use native.Mathlib.Omega.{arith}
 use lib.Dec.{leb, eqb}
 use lib.ListN.{length, getD}
 use borrow.Author.Tests.{le-leb}
-use lib.IntN.{ℤ, pos, negsuc, negℤ}
 use Rattle.rules.specs.Tests.{_&_, _≤?_, _=?_, within, all}
 use Rattle.rules.specs.Characters.{isBlank, isDigit}
 use Rattle.rules.specs.Digits.{val}
-use Rattle.rules.specs.Items.{numForm, heightForm, minus, number, height, missing, onNumber, width, shape, valueOf, fits, good}
-use Rattle.rules.proofs.Truth.{both, and, to≤, of≤, to≡, of≡, to-within, is-no, cases, and-true, not-both, all-weaken}
+use Rattle.rules.specs.Items.{numForm, heightForm, minus, number, height, onNumber, width, shape, valueOf, fits, good}
+use Rattle.rules.proofs.Truth.{both, and, of≤, to≡, of≡, to-within, is-no, cases, and-true, all-weaken}
 use Rattle.rules.proofs.DigitLaws.{notAbove9, val-lt}
 use Rattle.rules.proofs.FormLaws.{digit-low, up, down}
 use Rattle.columns.specs.Leaves.{formed, lastOf}
@@ -27,7 +26,7 @@ use Rattle.columns.proofs.ItemLaws.{same-size}
 unfolding _=?_
 32-no-45 = refl
 
-digit-no : (b k : ℕ) → k < 48 → isDigit b ≡ true → b =? k ≡ false
+pub digit-no : (b k : ℕ) → k < 48 → isDigit b ≡ true → b =? k ≡ false
 unfolding isDigit
 digit-no b k l h = is-no (b =? k) (λ e. omega (arith, to≡ e, to-within h .0))
 

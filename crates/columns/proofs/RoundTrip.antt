@@ -1,7 +1,7 @@
 -- What is written reads back as the same value, for every width and every value that fits; and the ends of the ranges. `rules` proves it of its definitions; here it is said of what the writers leave and the readers give. Assumes nothing.
-use mathlib.Core.Path.{_≡_, refl, sym, ap, _∙_}
+use mathlib.Core.Path.{_≡_, refl, ap, _∙_}
 use mathlib.Core.Bool.{Bool, true, false, cond, false≢true}
-use mathlib.Core.List.{List, [], _∷_}
+use mathlib.Core.List.{List, []}
 use Prim.Native.Nat.{ℕ, zero, suc, _≤_}
 use native.Mathlib.Omega.{arith}
 use lib.IntN.{ℤ, pos, negsuc}
@@ -11,7 +11,7 @@ use Rattle.rules.specs.Characters.{isBlank, ascii}
 use Rattle.rules.specs.Digits.{put}
 use Rattle.rules.specs.Items as items
 use Rattle.rules.specs.Items.{Item, Value, number, height, angle, month, media, num, signed, latitude, longitude, top, low, onNumber, width, valueOf, fits, render}
-use Rattle.rules.proofs.Truth.{of≤, of≡, both, to≤}
+use Rattle.rules.proofs.Truth.{of≤, of≡}
 use Rattle.rules.proofs.Lawful.{lawful}
 use Rattle.columns.specs.Types.{wayOf, countOf, countValue, heightOf, heightValue, natOf, intOf, mediaOf, mediaValue, four, fourOf}
 use Rattle.columns.specs.Leaves.{splitOf, splitLongOf, heightColumns, written}

@@ -1,25 +1,23 @@
 -- Values of numbers, heights and months as the code reads, tests and writes them: one law for each way through a function. Assumes nothing.
-use mathlib.Core.Path.{_≡_, refl, sym, ap, _∙_}
+use mathlib.Core.Path.{_≡_, refl, sym, _∙_}
 use mathlib.Core.Bool.{Bool, true, false, cond, _&&_}
-use mathlib.Core.List.{List, [], _∷_, _++_, append-nil}
-use Prim.Native.Nat.{ℕ, zero, suc, _-_, _^_, _≤_, _<_}
+use mathlib.Core.List.{List}
+use Prim.Native.Nat.{ℕ, suc, _-_, _^_, _≤_, _<_}
 use native.Mathlib.Omega.{arith}
 use lib.Dec.{leb, eqb}
 use lib.IntN.{ℤ, pos, negsuc}
-use lib.ListN.{length, replicate, set, take, drop}
-use lib.Seq.{take-length, drop-length}
-use borrow.Rule.Slice.PartMut.{midOf, putMid}
+use lib.ListN.{length}
 use Rattle.rules.specs.Tests.{_&_, _≤?_, _=?_, within, all}
 use Rattle.rules.specs.Characters.{isBlank, isDigit}
-use Rattle.rules.specs.Digits.{val, put}
-use Rattle.rules.specs.Items.{minus, signed, number, height, month, missing, num, onNumber, width, shape, valueOf, fits, render, good}
+use Rattle.rules.specs.Digits.{val}
+use Rattle.rules.specs.Items.{minus, signed, number, height, month, num, onNumber, width, shape, valueOf, fits, good}
 use Rattle.rules.proofs.Truth.{of≤, to≡, cases, of>}
 use Rattle.columns.specs.Types.{countOf, countValue, heightOf, heightValue, natOf}
-use Rattle.columns.specs.Leaves.{splitOf, splitFits, splitColumns, heightColumns, written}
+use Rattle.columns.specs.Leaves.{splitOf, splitFits}
 use Rattle.columns.specs.declared.Count.{Count}
 use Rattle.columns.specs.declared.Height.{Height}
 use Rattle.columns.specs.declared.signs.Split.{Split}
-use Rattle.columns.proofs.Loops.{&-is, suc-less-one}
+use Rattle.columns.proofs.Loops.{&-is}
 
 -- ---- reading
 module _ (bs : List ℕ) {r : Bool} (e : r ≡ all isBlank bs) where

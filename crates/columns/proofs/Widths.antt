@@ -1,6 +1,6 @@
 -- For callers that know the width of the part they lend: the promises at that width, without their guards. Assumes nothing.
-use mathlib.Core.Path.{_≡_, sym, ap, _∙_}
-use mathlib.Core.Bool.{Bool, cond}
+use mathlib.Core.Path.{_≡_, ap}
+use mathlib.Core.Bool.{Bool}
 use mathlib.Core.List.{List}
 use Prim.Native.Nat.{ℕ, _≤_}
 use native.Mathlib.Omega.{arith}
@@ -18,9 +18,3 @@ module _ (bs : List ℕ) {w : ℕ} (e : length bs ≡ w) where
   number-at lo hi may h =
       let k : length bs ≤ 16 = omega arith in
       rw (of≤ k, true-and) (good-at (λ j. number j lo hi may))
-
-  -- value_of, read_count, read_height, read_month
-  pub read-at : {A : Type 0} (most : ℕ) (x y : A) → w ≤ most → cond (length bs ≤? most) x y ≡ x
-  read-at most x y h =
-      let k : length bs ≤ most = omega arith in
-      rw (of≤ k)

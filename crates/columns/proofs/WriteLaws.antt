@@ -1,16 +1,16 @@
 -- What the writers leave: one law for each way through a function. Assumes nothing.
-use mathlib.Core.Path.{_≡_, refl, sym, ap, _∙_}
-use mathlib.Core.Bool.{Bool, true, false, cond}
-use mathlib.Core.List.{List, [], _∷_, _++_, append-nil}
+use mathlib.Core.Path.{_≡_, refl, sym}
+use mathlib.Core.Bool.{true, false}
+use mathlib.Core.List.{List, [], _∷_, append-nil}
 use Prim.Native.Nat.{ℕ, zero, suc, _-_, _≤_, _<_}
 use native.Mathlib.Omega.{arith}
 use lib.IntN.{ℤ, pos, negsuc}
-use lib.ListN.{length, replicate, set, take, drop}
+use lib.ListN.{length, replicate, set}
 use lib.Seq.{take-length, drop-length}
 use borrow.Rule.Slice.PartMut.{midOf, putMid}
 use Rattle.rules.specs.Tests.{_&_, _=?_}
 use Rattle.rules.specs.Digits.{put}
-use Rattle.rules.specs.Items.{Item, Value, number, height, month, num, onNumber, width, fits, render}
+use Rattle.rules.specs.Items.{Item, Value, number, month, num, onNumber, width, fits, render}
 use Rattle.rules.proofs.Truth.{of≡, cases, of≢}
 use Rattle.columns.specs.Types.{countValue, heightValue}
 use Rattle.columns.specs.Leaves.{splitOf, splitColumns, heightColumns, written}

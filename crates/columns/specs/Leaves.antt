@@ -1,10 +1,10 @@
 -- What the parts of the work give.
 use mathlib.Core.Path.{_≡_}
-use mathlib.Core.Bool.{Bool, true, false, cond, not, _&&_, _||_}
-use mathlib.Core.List.{List, [], _∷_, _++_}
+use mathlib.Core.Bool.{Bool, true, cond, not, _&&_, _||_}
+use mathlib.Core.List.{List, [], _∷_}
 use Prim.Native.Nat.{ℕ, zero, suc, _+_, _-_, _*_, _^_, _≤_}
 use lib.Dec.{leb, eqb}
-use lib.ListN.{length, getD, replicate}
+use lib.ListN.{length, getD}
 use lib.IntN.{ℤ, pos, negsuc}
 use Rattle.rules.specs.Tests.{_&_, _≤?_, _=?_, all}
 use Rattle.rules.specs.Characters.{isDigit}

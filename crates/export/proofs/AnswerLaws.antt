@@ -1,14 +1,13 @@
 -- Words put into lent memory: nothing where the answer is too short, else from the first word on.
 use mathlib.Core.Path.{_≡_, refl, sym, _∙_, ap}
-use mathlib.Core.Bool.{Bool, true, false, cond}
 use mathlib.Core.List.{List, [], _∷_, _++_, append-nil}
-use Prim.Native.Nat.{ℕ, suc, _+_, _-_, _*_, _^_, _≤_, _<_}
+use Prim.Native.Nat.{ℕ, _+_, _-_, _*_, _≤_, _<_}
 use native.Mathlib.Numerals.{add-one}
 use native.Mathlib.Omega.{arith}
 use lib.ListN.{length, take, drop, getD, set, length-take, length-drop, drop-of-length-le}
 use lib.Seq.{take-suc, take-suc-set, take-all, drop-drop}
 use borrow.Rule.Slice.PartMut.{putMid}
-use Rattle.rules.specs.Tests.{_≤?_, _=?_}
+use Rattle.rules.specs.Tests.{_=?_}
 use Rattle.rules.specs.Calls.{fieldOffset, fieldOf, widthAsked}
 use Rattle.rules.proofs.Truth.{of≤, of>, to≡, no≡, above-0, cases}
 use Rattle.reading.proofs.CallLaws.{inside, room, empty-offset, some-offset}

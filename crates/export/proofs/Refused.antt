@@ -12,10 +12,10 @@ use Rattle.rules.specs.Items.{Value, Way, width, gap, num, text, Item, blank, c
 use Rattle.rules.specs.Fields.{Field, Expect, anything, Verdict, ok, fault, check, _⨾_, isOk, Entry, given, entriesOf, agrees, judgeEach, judge, covers}
 use Rattle.rules.specs.Records.{Meaning, sequence, told, ofKind, judgeGiven}
 use Rattle.rules.specs.Kinds.{kindOf, known}
-use Rattle.rules.specs.Layouts.{at, tied, station, instrument, antenna, initials, state, anyText, metres, letterOrBlank, kept, titled, project, occupation, comment, measurement, receiver, aerial, point, heights, layouts, layout}
+use Rattle.rules.specs.Layouts.{at, kept, layouts, layout}
 use Rattle.rules.specs.Calls.{writeVerdict, writeOutput}
 use Rattle.rules.specs.Chapter4.{chapter4}
-use Rattle.rules.proofs.Truth.{both, to≤, to≡, no≤, of>, of≤, cases, all-getD}
+use Rattle.rules.proofs.Truth.{both, to≤, to≡, no≤, of>, of≤, cases, all-getD, and-false}
 use Rattle.rules.proofs.FieldLaws.{⨾-assoc}
 use Rattle.rules.proofs.Chapter4Laws.{layout-covers}
 use Rattle.columns.specs.Types.{heightValue, mediaValue, fourOf}
@@ -29,7 +29,7 @@ use Rattle.answers.specs.Given as words
 use Rattle.answers.specs.Held.{wordCount, noField, wordFrom, isHeld, holdsNumber, holdsSequence, holdsMillimetres, holdsCharacters, holds, leftOfCode, leftOfField}
 use Rattle.answers.specs.Promise.{wordsVerdict, wordsOutput, Writes}
 use Rattle.export.proofs.GivenLaws.{word-lacking, given-none}
-use Rattle.export.proofs.Unheld.{refuses, layouts-refuse, kept-refuses, sequence-refuses, no-and, media-maker, media-day, media-year, media-session, first-unknown, second-unknown}
+use Rattle.export.proofs.Unheld.{refuses, layouts-refuse, kept-refuses, sequence-refuses, media-maker, media-day, media-year, media-session, first-unknown, second-unknown}
 
 -- ---- one word that its type does not hold
 not-is : (b : Bool) → not b ≡ true → b ≡ false
@@ -90,7 +90,7 @@ abbrev Taken : List ℤ → (x y z : List ℕ) → ℕ → Type 0
 Taken ws x y z k = valuesOf (recordGiven k ws) x y z ≡ allTaken (getD layouts k kept) ws 2 (x ∷ y ∷ z ∷ [])
 
 values-taken : (ws : List ℤ) (x y z : List ℕ) (k : ℕ) → k < 14 → Taken ws x y z k
-unfolding recordGiven recordsGiven projectGiven occupationGiven measurementGiven pointGiven heightsGiven twoAt threeAt fourAt valuesOf twoText threeText fourOf allTaken takenAs textsAfter characters wordCount layouts kept titled project occupation comment measurement receiver aerial point heights at tied station instrument antenna initials state anyText metres letterOrBlank _≤?_
+unfolding recordGiven recordsGiven projectGiven occupationGiven measurementGiven pointGiven heightsGiven twoAt threeAt fourAt valuesOf twoText threeText fourOf allTaken takenAs textsAfter characters wordCount layouts _≤?_
 values-taken ws x y z = each-kind (Taken ws x y z) refl refl refl refl refl refl refl refl refl refl refl refl refl refl
 
 kind-taken : (ws : List ℤ) (k : ℕ) → k < 14 → kindNumber (recordGiven k ws) ≡ k
@@ -105,7 +105,7 @@ module _ (ws : List ℤ) where
   none-of test e (suc w) p h =
       one-fails (isHeld 255 (wordAt ws p)) (holdsCharacters w ws (p + 1)) h _
       (λ a. rw (held-other 255 0 (wordAt ws p) a, e) (unfold _&_ in refl))
-      (λ b. rw (none-of test e w (p + 1) b) (no-and (test (characterAt ws p))))
+      (λ b. rw (none-of test e w (p + 1) b) (and-false (test (characterAt ws p))))
 
   no-text : (w : ℕ) (t : Test) (p : ℕ) → refuses (word w t) ≡ true → holdsCharacters w ws p ≡ false → passes t (characters w ws p) ≡ false
   unfolding refuses passes
@@ -126,7 +126,7 @@ module _ (ws : List ℤ) where
 
   media-mark : (p a b c d : ℕ) → holdsCharacters 4 ws p ≡ false → isMedia a b c d (fourOf (fourAt ws p)) ≡ false
   unfolding isMedia
-  media-mark p a b c d h = rw (no-mark p h, no-and (length (fourOf (fourAt ws p)) =? 4)) (no-and _)
+  media-mark p a b c d h = rw (no-mark p h, and-false (length (fourOf (fourAt ws p)) =? 4)) (and-false _)
 
   no-media : (p : ℕ) → holds media ws p ≡ false → fits media (mediaValue (mediaAt ws p)) ≡ false
   unfolding holds fits onLabel mediaValue mediaAt
@@ -162,7 +162,7 @@ module _ (ws : List ℤ) where
 
   no-word : (w : ℕ) (t : Test) (p : ℕ) (ts : List (List ℕ)) → refuses (word w t) ≡ true → holds (word w t) ws p ≡ false → fits (word w t) (takenAs (word w t) ws p ts) ≡ false
   unfolding holds takenAs fits onText
-  no-word w t p ts r h = cases (w ≤? 4) (λ e. rw (e, no-text w t p r (rw e at h)) (no-and _)) (λ e. absurd (false≢true (sym (rw e at h))))
+  no-word w t p ts r h = cases (w ≤? 4) (λ e. rw (e, no-text w t p r (rw e at h)) (and-false _)) (λ e. absurd (false≢true (sym (rw e at h))))
 
   not-fitting : (i : Item) (p : ℕ) (ts : List (List ℕ)) → refuses i ≡ true → holds i ws p ≡ false → fits i (takenAs i ws p ts) ≡ false
   not-fitting (blank w) p ts r h = absurd (false≢true (sym (unfold holds in h)))

@@ -28,7 +28,7 @@ ghost use lib.ListN.{length};
 ghost use lib.IntN.{pos, negsuc};
 ghost use Rattle.kinds.specs.Values.{kindNumber};
 ghost use Rattle.answers.specs.Answers.{Small};
-ghost use Rattle.answers.specs.Words.{heightWord, twoWords, fourWords, projectWords, occupationWords, measurementWords, pointWords, heightsWords, heightsFirst, valueWords, sequenceWord, readWords, Told, laid};
+ghost use Rattle.answers.specs.Words.{fourWords, projectWords, occupationWords, measurementWords, pointWords, heightsWords, heightsFirst, valueWords, sequenceWord, readWords, Told, laid};
 
 fn put_job(out: &mut [i64], r: Job)
     ensures { λ _. ⌜ now (out .exit) ≡ laid 5 (pos (r .first) ∷ pos (r .second) ∷ []) (now (out .entry)) ⌝ }

@@ -6,7 +6,6 @@ use kinds::Sequence;
 use kinds::Three;
 use kinds::Two;
 ghost use mathlib.Core.Path.{_≡_};
-ghost use mathlib.Core.List.{[], _∷_};
 ghost use Prim.Native.Nat.{_<_};
 ghost use lib.ListN.{length, set, replicate};
 ghost use lib.IntN.{pos};

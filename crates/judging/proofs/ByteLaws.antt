@@ -1,15 +1,14 @@
 -- The lowest column at fault: one law for each way through the loop.
-use mathlib.Core.Path.{_≡_, refl, sym, _∙_, ap}
-use mathlib.Core.Bool.{Bool, true, false, cond}
-use mathlib.Core.List.{List, [], _∷_}
-use Prim.Native.Nat.{ℕ, zero, suc, _+_, _-_, _≤_, _<_}
+use mathlib.Core.Path.{_≡_, sym, _∙_, ap}
+use mathlib.Core.Bool.{true, false}
+use mathlib.Core.List.{List}
+use Prim.Native.Nat.{ℕ, suc, _+_, _-_, _≤_, _<_}
 use native.Mathlib.Numerals.{add-one}
 use native.Mathlib.Omega.{arith}
-use lib.ListN.{length, take, drop, getD, drop-of-length-le}
+use lib.ListN.{length, drop, getD, drop-of-length-le}
 use lib.Seq.{drop-cons}
-use Rattle.rules.specs.Tests.{within, _&_, _≤?_, _=?_}
 use Rattle.rules.specs.Characters.{isPrintable}
-use Rattle.rules.specs.Fields.{Verdict, ok, fault, check, _⨾_}
+use Rattle.rules.specs.Fields.{ok, fault, check, _⨾_}
 use Rattle.rules.specs.Records.{bytes}
 use Rattle.rules.proofs.Truth.{of-within, to-within, of≡, of≢, is-no}
 use Rattle.kinds.specs.declared.Judged.{Judged}

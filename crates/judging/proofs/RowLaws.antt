@@ -12,7 +12,7 @@ use Rattle.rules.specs.Characters.{isBlank, letter, digit, space, only, _or_}
 use Rattle.rules.specs.Digits.{val}
 use Rattle.rules.specs.Items.{Test, each, number, height, month, word, columns, width, valueOf, good, spot}
 use Rattle.rules.specs.Fields.{Expect, Verdict, ok, fault, isOk, check, _⨾_, columnsOf, read, valueAt, numOf, isMissing, agreesWith, agrees, judgeEach, judge}
-use Rattle.rules.specs.Layouts.{at, tied, station, instrument, antenna, initials, state, anyText, metres, letterOrBlank, kept, titled, project, occupation, comment, measurement, receiver, aerial, point, heights, layouts}
+use Rattle.rules.specs.Layouts.{kept, layouts}
 use Rattle.rules.proofs.Truth.{both, to≤, of≤, to≡, cases}
 use Rattle.rules.proofs.FieldLaws.{⨾-assoc}
 use Rattle.rules.proofs.FileLaws.{length-take-most}
@@ -97,7 +97,7 @@ abbrev Alike : Expect → List ℕ → ℕ → Type 0
 Alike e l k = apart e l (getD rowLists k []) ≡ judge e (map (read l) (getD layouts k kept))
 
 apart-judge : (e : Expect) (l : List ℕ) (k : ℕ) → k < 14 → Alike e l k
-unfolding apart agreesIn wayOf setOf judge judgeEach agrees agreesWith valueAt read columnsOf width columns layouts kept titled project occupation comment measurement receiver aerial point heights at tied station instrument antenna initials state anyText metres letterOrBlank check _⨾_ _=?_
+unfolding apart agreesIn wayOf setOf judge judgeEach agrees agreesWith valueAt read columnsOf width columns layouts check _⨾_ _=?_
 apart-judge e l = each-kind (Alike e l) refl refl refl
     (rw (number-in 6 (drop 10 l) (lit≤ tt), number-in 6 (drop 16 l) (lit≤ tt), month-tells (take 6 (drop 10 l)), month-tells (take 6 (drop 16 l))))
     refl refl

@@ -13,7 +13,7 @@ use Rattle.rules.specs.Tests.{_&_, _≤?_, _=?_, within, all}
 use Rattle.rules.specs.Characters.{isDigit}
 use Rattle.rules.specs.Digits.{val}
 use Rattle.rules.specs.Items.{angle, angleOf, dmsForm, good}
-use Rattle.rules.proofs.Truth.{both, and, of≤, to≡, below-or-equal, either, to-within}
+use Rattle.rules.proofs.Truth.{both, and, of≤, to≡, below-or-equal, either, to-within, both-true}
 use Rattle.rules.proofs.DigitLaws.{notAbove9, val-lt}
 use Rattle.columns.specs.declared.Way.{Way}
 use Rattle.columns.specs.Types.{wayOf}
@@ -22,7 +22,7 @@ use Rattle.columns.proofs.AngleLaws.{agrees, angle-good}
 use Rattle.kinds.specs.declared.tables.Item.the-variants as I
 use Rattle.quick.specs.Rows.{Class, digits, tens, inClass, rowOk, rowOf}
 use Rattle.quick.specs.Rest.{zeros, latitudeRest, longitudeRest}
-use Rattle.quick.proofs.ClassLaws.{both-true, one-true, admits, all-columns, column-is, row-part, row-within, spread, spread-is}
+use Rattle.quick.proofs.ClassLaws.{one-true, admits, all-columns, column-is, row-part, row-within, spread, spread-is}
 
 -- ---- an angle in its parts
 module _ (d m s : ℕ) (p : m ≤ 59) (q : s ≤ 5_999_999) where

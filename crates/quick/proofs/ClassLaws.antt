@@ -2,7 +2,7 @@
 use mathlib.Core.Path.{_≡_, refl, sym, ap, _∙_}
 use mathlib.Core.Bool.{Bool, true, false, cond, _&&_, _||_, false≢true}
 use mathlib.Core.List.{List, [], _∷_, _++_}
-use Prim.Native.Nat.{ℕ, zero, suc, _+_, _-_, _≤_, _<_}
+use Prim.Native.Nat.{ℕ, zero, suc, _+_, _≤_, _<_}
 use native.Mathlib.Omega.{arith}
 use native.Mathlib.Numerals.{add-one}
 use lib.Dec.{leb, eqb}
@@ -10,14 +10,10 @@ use lib.ListN.{length, getD, take, drop}
 use lib.Seq.{drop-cons}
 use borrow.Author.Tests.{leb-true, eqb-true}
 use Rattle.rules.specs.Tests.{_&_, _≤?_, _=?_, all}
-use Rattle.rules.proofs.Truth.{both, and, to≤, to≡, true-and, &-assoc, under, tried}
+use Rattle.rules.proofs.Truth.{both, and, to≤, to≡, both-true, true-and, &-assoc, under, tried}
 use Rattle.quick.specs.Rows.{Class, inClass, col, rowOk, spelled, colAt}
 
 -- ---- tests with the bare connectives of the code
-pub both-true : (x y : Bool) → (x && y) ≡ true → (x ≡ true) × (y ≡ true)
-both-true true y h = (refl, h)
-both-true false y h = absurd (false≢true h)
-
 pub one-true : {P : Type 0} (x y : Bool) → (x || y) ≡ true → (x ≡ true → P) → (y ≡ true → P) → P
 one-true true y h f g = f refl
 one-true false y h f g = g h

@@ -10,11 +10,11 @@ use lib.Seq.{getD-drop}
 use borrow.Author.Tests.{leb-true, eqb-true}
 use Rattle.rules.specs.Tests.{_&_, _≤?_, _=?_, all}
 use Rattle.rules.specs.Fields.{Expect, meets}
-use Rattle.rules.proofs.Truth.{to≤, no≤, to≡, no≡, cases, above-0}
+use Rattle.rules.proofs.Truth.{to≤, no≤, to≡, no≡, cases, above-0, both-true}
 use Rattle.kinds.specs.Tables.{rowLists}
 use Rattle.quick.specs.Rows.{classTable, colAt, fiveAt, Columns, textAt, fiveTexts, Texts, isText}
 use Rattle.quick.specs.Rest.{lowVal, some, between, notZero, mediaRest, zeros, alike, datumRest, latitudeRest, longitudeRest, sequenceRest, itemRest, bondRest, restFrom, Fit}
-use Rattle.quick.proofs.ClassLaws.{both-true, one-true, spread, spread-is}
+use Rattle.quick.proofs.ClassLaws.{one-true, spread, spread-is}
 use Rattle.quick.proofs.KindLaws.{fits-ok, row-from}
 
 -- ---- the row: sixteen turns of five columns

@@ -2,7 +2,7 @@
 use mathlib.Core.Path.{_≡_, refl, sym, ap, _∙_, subst}
 use mathlib.Core.Bool.{Bool, true, _&&_, _||_, false≢true}
 use mathlib.Core.List.{List, [], _∷_, map}
-use Prim.Native.Nat.{ℕ, zero, suc, _-_, _≤_, _<_}
+use Prim.Native.Nat.{ℕ, zero, suc, _≤_, _<_}
 use native.Mathlib.Omega.{arith}
 use lib.Dec.{leb, eqb}
 use lib.ListN.{length, getD, take, replicate}
@@ -11,13 +11,13 @@ use borrow.Author.Tests.{leb-true, eqb-true}
 use Rattle.rules.specs.Tests.{_&_, _≤?_, _=?_, within, all}
 use Rattle.rules.specs.Characters.{isDigit, isPrintable}
 use Rattle.rules.specs.Fields.{Expect, isOk}
-use Rattle.rules.proofs.Truth.{both, and, to≤, to≡, of-within, all-at}
+use Rattle.rules.proofs.Truth.{both, and, to≤, to≡, of-within, all-at, both-true}
 use Rattle.rules.proofs.Conforming.{bytes-of}
 use Rattle.kinds.specs.Tables.{Row, rowLists}
 use Rattle.judging.proofs.RowLaws.{rows-judge}
 use Rattle.quick.specs.Rows.{Class, inClass, rowOk, run, texts, layoutRow, leadRow, kindRow, spelled, classTable, colAt, Columns}
 use Rattle.quick.specs.Rest.{sequenceRest, restFrom, Fit}
-use Rattle.quick.proofs.ClassLaws.{both-true, one-true, admits, in-class, row-split, columns-row, sameRow, sameClass}
+use Rattle.quick.proofs.ClassLaws.{one-true, admits, in-class, row-split, columns-row, sameRow, sameClass}
 use Rattle.quick.proofs.NumberLaws.{even, sequence-ok}
 use Rattle.quick.proofs.RecordLaws.{asked, height, bound, laid, rows-ok}
 

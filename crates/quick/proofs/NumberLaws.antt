@@ -13,20 +13,16 @@ use Rattle.rules.specs.Tests.{_&_, _≤?_, _=?_, within, all}
 use Rattle.rules.specs.Characters.{isBlank, isDigit}
 use Rattle.rules.specs.Digits.{val}
 use Rattle.rules.specs.Items.{number, height, good}
-use Rattle.rules.proofs.Truth.{both, and, to≡, of≡, of≢, is-no, cases, to-within}
+use Rattle.rules.proofs.Truth.{both, and, to≡, of≡, of≢, cases, to-within, both-true}
 use Rattle.rules.proofs.DigitLaws.{notAbove9, val-lt}
 use Rattle.columns.specs.Leaves.{formed, lastOf}
-use Rattle.columns.proofs.NumberLaws.{number-good, height-good, last-tells}
+use Rattle.columns.proofs.NumberLaws.{digit-no, number-good, height-good, last-tells}
 use Rattle.quick.specs.Rows.{class, span, blanks, inClass, col, rowOk, run}
 use Rattle.rules.specs.Records.{sequence}
 use Rattle.quick.specs.Rest.{lowVal, some, notZero, sequenceRest}
-use Rattle.quick.proofs.ClassLaws.{both-true, one-true, admits, admitted, in-class, all-columns, column-is}
+use Rattle.quick.proofs.ClassLaws.{one-true, admits, admitted, in-class, all-columns, column-is}
 
 -- ---- the form
-digit-not : (b k : ℕ) → k < 48 → isDigit b ≡ true → b =? k ≡ false
-unfolding isDigit
-digit-not b k l h = is-no (b =? k) (λ e. omega (arith, to≡ e, to-within h .0))
-
 unfoldable runs : ℕ → ℕ → Bool
 runs m b = isDigit b || (b =? 32 || b =? m)
 
@@ -59,7 +55,7 @@ ended m b h = one-true (isDigit b) (b =? 32) h (λ d. rw d) (λ d. rw d (or-true
 no-minus : (b : ℕ) → ends b ≡ true → not (b =? 45) ≡ true
 unfolding ends
 no-minus b h =
-    one-true (isDigit b) (b =? 32) h (λ d. rw (digit-not b 45 (omega arith) d)) (λ d. rw (of≢ {m = b} {n = 45} (λ e. omega (arith, to≡ d))))
+    one-true (isDigit b) (b =? 32) h (λ d. rw (digit-no b 45 (omega arith) d)) (λ d. rw (of≢ {m = b} {n = 45} (λ e. omega (arith, to≡ d))))
 
 -- m is the mark of a run, t what its last column may be besides a digit
 module _ (m t : ℕ) (k : 32 ≤ m) (l : m ≤ 45) (M : admits (runs m) (class 48 57 m 32 32) ≡ true) (T : admits ends (span 48 57 48 t) ≡ true) where
@@ -161,7 +157,7 @@ module _ (w : ℕ) (bs : List ℕ) (n : length (take (suc w) bs) ≡ suc w) wher
       let B = take (suc w) bs in
       let low = run-all notAbove9 32 48 w (low-run w 48 (unfold admits notAbove9 inClass all _&_ _≤?_ _=?_ in refl)) bs h in
       let most : val 0 B ≤ hi = omega (arith, subst (λ k. val 0 B < 1 * 10 ^ k) n (val-lt 0 B low), q) in
-      let d : eqb (lastOf B) 32 ≡ false = unfold _=?_ in ap (λ b. eqb b 32) (last-is w bs n) ∙ (unfold _=?_ in digit-not (getD bs w 0) 32 (omega arith) (run-last 32 w bs h)) in
+      let d : eqb (lastOf B) 32 ≡ false = unfold _=?_ in ap (λ b. eqb b 32) (last-is w bs n) ∙ (unfold _=?_ in digit-no (getD bs w 0) 32 (omega arith) (run-last 32 w bs h)) in
       subst (λ k. good (number k lo hi false) B ≡ true) n
       (sym (number-good lo hi false B (sym (number-formed w bs h)) refl refl refl refl)
       ∙ rw (d, le-leb lo (val 0 B) k, le-leb (val 0 B) hi most))
@@ -188,7 +184,7 @@ module _ (w : ℕ) (bs : List ℕ) (n : length (take (suc w) bs) ≡ suc w) wher
 
   pub rise-ok : rowOk (run 45 48 (suc w)) bs ≡ true → good (height (suc w) false) (take (suc w) bs) ≡ true
   rise-ok h =
-      let d : eqb (lastOf (take (suc w) bs)) 32 ≡ false = ap (λ b. eqb b 32) (last-is w bs n) ∙ (unfold _=?_ in digit-not (getD bs w 0) 32 (omega arith) (run-last 45 w bs h)) in
+      let d : eqb (lastOf (take (suc w) bs)) 32 ≡ false = ap (λ b. eqb b 32) (last-is w bs n) ∙ (unfold _=?_ in digit-no (getD bs w 0) 32 (omega arith) (run-last 45 w bs h)) in
       subst (λ k. good (height k false) (take (suc w) bs) ≡ true) n (sym (height-good false (take (suc w) bs) (sym (rise-formed w bs h)) refl) ∙ rw d)
 
   -- a height is missing exactly where its last column is blank

@@ -11,7 +11,7 @@ use Rattle.rules.specs.Tests.{_&_, _≤?_, _=?_, within, all}
 use Rattle.rules.specs.Characters.{isBlank}
 use Rattle.rules.specs.Items.{number, good}
 use Rattle.rules.specs.Fields.{Expect, isOk, sameTruth, meets, check, _⨾_}
-use Rattle.rules.proofs.Truth.{both, and, to≤, to≡, to-within, and-true}
+use Rattle.rules.proofs.Truth.{both, and, to≤, to≡, to-within, and-true, both-true}
 use Rattle.rules.proofs.FieldLaws.{isOk-⨾}
 use Rattle.columns.specs.Types.{setOf}
 use Rattle.kinds.specs.declared.tables.Item.{Item}
@@ -22,7 +22,7 @@ use Rattle.kinds.specs.Tables.{itemOf, Row}
 use Rattle.judging.specs.Judging.{part, numberIn, agreesIn, judgeRow, judgeRows}
 use Rattle.quick.specs.Rows.{Class, run, rowOk, rowOf, layoutRow}
 use Rattle.quick.specs.Rest.{lowVal, some, between, notZero, mediaRest, zeros, latitudeRest, longitudeRest, alike, datumRest, itemRest, bondRest, restFrom}
-use Rattle.quick.proofs.ClassLaws.{both-true, admits, all-columns, row-split, row-part, sameRow, same-row}
+use Rattle.quick.proofs.ClassLaws.{admits, all-columns, row-split, row-part, sameRow, same-row}
 use Rattle.quick.proofs.NumberLaws.{even, number-even, number-ok, some-val, low-val, metres-ok, metres-tell, rise-ok}
 use Rattle.quick.proofs.WordLaws.{blank-ok, letters-ok, spaced-ok, yes-no-ok, texts-ok, one-ok, pair-ok, datum-ok, media-ok}
 use Rattle.quick.proofs.AngleLaws.{latitude-ok, longitude-ok}

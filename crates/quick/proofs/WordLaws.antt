@@ -2,7 +2,7 @@
 use mathlib.Core.Path.{_≡_, refl, sym, ap, _∙_, subst}
 use mathlib.Core.Bool.{Bool, true, false, not, _&&_, _||_, or-true, false≢true}
 use mathlib.Core.List.{List, [], _∷_}
-use Prim.Native.Nat.{ℕ, _-_, _≤_, _<_}
+use Prim.Native.Nat.{ℕ, _≤_, _<_}
 use native.Mathlib.Omega.{arith}
 use lib.Dec.{leb, eqb, lit≤}
 use lib.ListN.{length, getD, take, drop, replicate, length-replicate}
@@ -12,12 +12,12 @@ use Rattle.rules.specs.Characters.{Set, letter, digit, space, printable, only, 
 use Rattle.rules.specs.Digits.{val}
 use Rattle.rules.specs.Items.{blank, word, each, orBlank, media, isMedia, onLabel, width, shape, valueOf, fits, good}
 use Rattle.rules.specs.Fields.{sameTruth}
-use Rattle.rules.proofs.Truth.{and, of≤, of≡, of-within, to-within, all-replicate}
+use Rattle.rules.proofs.Truth.{and, of≤, of≡, of-within, to-within, all-replicate, both-true}
 use Rattle.columns.proofs.ItemLaws.{good-blank, good-each, good-or-blank}
 use Rattle.kinds.specs.declared.tables.Item.the-variants as I
 use Rattle.quick.specs.Rows.{Class, blanks, texts, letters, spaced, wideSpaced, pairs, answers, inClass, rowOk, rowOf}
 use Rattle.quick.specs.Rest.{lowVal, between, mediaRest, alike, datumRest}
-use Rattle.quick.proofs.ClassLaws.{both-true, one-true, admits, all-columns, column-is, row-within, spread, spread-is}
+use Rattle.quick.proofs.ClassLaws.{one-true, admits, all-columns, column-is, row-within, spread, spread-is}
 use Rattle.quick.proofs.NumberLaws.{even, low-val}
 
 -- ---- every column of one class

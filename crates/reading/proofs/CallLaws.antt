@@ -8,7 +8,7 @@ use lib.Dec.{leb}
 use lib.ListN.{length, take, drop, getD}
 use Rattle.rules.specs.Tests.{_&_, _≤?_, _=?_, within}
 use Rattle.rules.specs.Items.{valueOf}
-use Rattle.rules.specs.Fields.{Verdict, ok, fault, isOk, values}
+use Rattle.rules.specs.Fields.{Verdict, ok, fault, isOk}
 use Rattle.rules.specs.Layouts.{layouts, kept, layout}
 use Rattle.rules.specs.Kinds.{kindOf, known}
 use Rattle.rules.specs.Records.{sequence, codeAt, readLine, meaning, formedLine}

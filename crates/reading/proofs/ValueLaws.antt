@@ -11,7 +11,7 @@ use lib.ListN.{length, take, drop, getD}
 use Rattle.rules.specs.Tests.{_≤?_}
 use Rattle.rules.specs.Items.{Value, gap, missing, num, text, label, month, media, columns, width, valueOf, number, height, angle}
 use Rattle.rules.specs.Fields.{columnsOf, values}
-use Rattle.rules.specs.Layouts.{at, tied, station, instrument, antenna, initials, state, anyText, metres, letterOrBlank, project, occupation, comment, measurement, receiver, aerial, point, heights, layouts}
+use Rattle.rules.specs.Layouts.{station, instrument, antenna, initials, state, layouts}
 use Rattle.rules.specs.Records.{sequence, codeAt}
 use Rattle.rules.proofs.Truth.{of≤}
 use Rattle.rules.proofs.FileLaws.{length-take-most}
@@ -44,31 +44,31 @@ module _ (l : List ℕ) where
   job-is = refl
 
   pub project-is : R.Project (projectIn l) ≡ recordIn 3 l
-  unfolding projectIn monthIn recordIn recordFrom values layouts project at tied initials state columnsOf width valueOf textOf
+  unfolding projectIn monthIn recordIn recordFrom values layouts columnsOf width valueOf textOf
   project-is = refl
 
   pub occupation-is : R.Occupation (occupationIn l) ≡ recordIn 4 l
-  unfolding occupationIn natIn recordIn recordFrom values layouts occupation at station instrument antenna initials columnsOf width valueOf textOf
+  unfolding occupationIn natIn recordIn recordFrom values layouts columnsOf width valueOf textOf
   occupation-is = refl
 
   pub measurement-is : R.Measurement (measurementIn l) ≡ recordIn 6 l
-  unfolding measurementIn natIn riseIn recordIn recordFrom values layouts measurement at tied station columnsOf width valueOf
+  unfolding measurementIn natIn riseIn recordIn recordFrom values layouts columnsOf width valueOf
   measurement-is = refl
 
   pub instrument-is : R.Instrument (instrumentIn l) ≡ recordIn 7 l
-  unfolding instrumentIn natIn recordIn recordFrom values layouts receiver at tied instrument columnsOf width valueOf
+  unfolding instrumentIn natIn recordIn recordFrom values layouts columnsOf width valueOf
   instrument-is = refl
 
   pub antenna-is : R.Antenna (antennaIn l) ≡ recordIn 8 l
-  unfolding antennaIn natIn recordIn recordFrom values layouts aerial at tied antenna anyText columnsOf width valueOf textOf
+  unfolding antennaIn natIn recordIn recordFrom values layouts columnsOf width valueOf textOf
   antenna-is = refl
 
   pub point-is : R.Point (pointIn l) ≡ recordIn 9 l
-  unfolding pointIn natIn wayOf recordIn recordFrom values layouts point at station anyText state columnsOf width columns valueOf textOf
+  unfolding pointIn natIn wayOf recordIn recordFrom values layouts columnsOf width columns valueOf textOf
   point-is = refl
 
   pub heights-is : R.Heights (heightsIn l) ≡ recordIn 10 l
-  unfolding heightsIn natIn heightIn recordIn recordFrom values layouts heights at tied station metres anyText letterOrBlank columnsOf width valueOf textOf charOf
+  unfolding heightsIn natIn heightIn recordIn recordFrom values layouts columnsOf width valueOf textOf charOf
   heights-is = refl
 
 -- the kinds with a text and nothing else

@@ -2,16 +2,16 @@
 use mathlib.Core.Path.{_≡_, refl, sym, _∙_, ap}
 use mathlib.Core.Bool.{Bool, true, false, cond, false≢true}
 use mathlib.Core.List.{List, [], _∷_}
-use Prim.Native.Nat.{ℕ, _+_, _-_, _≤_, _<_}
+use Prim.Native.Nat.{ℕ, _+_, _≤_, _<_}
 use native.Mathlib.Omega.{arith}
 use lib.ListN.{getD}
 use lib.Seq.{slice, slice-empty}
 use Rattle.rules.specs.Tests.{all, _&_, _≤?_, _=?_}
 use Rattle.rules.specs.Items.{Item, blank, constant, number, height, angle, month, media, word, latitude, longitude, columns, width, parts}
 use Rattle.rules.specs.Fields.{Field, covers}
-use Rattle.rules.specs.Layouts.{at, tied, station, instrument, antenna, initials, state, anyText, metres, letterOrBlank, kept, titled, project, occupation, comment, measurement, receiver, aerial, point, heights, layouts}
+use Rattle.rules.specs.Layouts.{at, station, state, anyText, kept, point, layouts}
 use Rattle.rules.specs.Calls.{partWidth, fieldWidth}
-use Rattle.rules.proofs.Truth.{both, and, to≤, to≡, of≡, no≡, of≢, cases, above-0}
+use Rattle.rules.proofs.Truth.{both, to≤, to≡, of≡, no≡, of≢, cases, above-0}
 use Rattle.rules.proofs.FieldLaws.{covers-end}
 use Rattle.kinds.specs.Tables.{rowLists, rows, starts, firsts, widths}
 use Rattle.kinds.proofs.TableLaws.{each-kind, begins, first-is, width-is, rows-from}
@@ -72,14 +72,14 @@ abbrev Plain : ℕ → Type 0
 Plain k = (k ≡ 9 → ⊥) → all plain (getD layouts k kept) ≡ true
 
 all-plain : (k : ℕ) → k < 14 → Plain k
-unfolding all plain isAngle width columns layouts kept titled project occupation comment measurement receiver aerial point heights at tied station instrument antenna initials state anyText metres letterOrBlank _≤?_ _&_
+unfolding all plain isAngle width columns layouts _≤?_ _&_
 all-plain = each-kind Plain (λ n. refl) (λ n. refl) (λ n. refl) (λ n. refl) (λ n. refl) (λ n. refl) (λ n. refl) (λ n. refl) (λ n. refl) (λ n. absurd (n refl)) (λ n. refl) (λ n. refl) (λ n. refl) (λ n. refl)
 
 abbrev ByRow : ℕ → ℕ → Type 0
 ByRow c k = rowWidth c (getD rowLists k []) ≡ widthFrom c (getD layouts k kept)
 
 by-row : (c k : ℕ) → k < 14 → ByRow c k
-unfolding rowWidth widthFrom width columns layouts kept titled project occupation comment measurement receiver aerial point heights at tied station instrument antenna initials state anyText metres letterOrBlank
+unfolding rowWidth widthFrom width columns layouts
 by-row c = each-kind (ByRow c) refl refl refl refl refl refl refl refl refl refl refl refl refl refl
 
 pub width-by-row : (k c : ℕ) → k < 14 → (k ≡ 9 → ⊥) → (r : ℕ) → r ≡ rowWidth c (getD rowLists k []) → r ≡ fieldWidth c (getD layouts k kept)
@@ -128,48 +128,48 @@ angle-cons c d f fs e w p n m = rw (p, e, of≢ n, of≢ m, zero-is)
 
 module _ (c : ℕ) where
   pub at-latitude : c ≡ 45 → 11 ≡ fieldWidth c point
-  unfolding fieldWidth partWidth parts columns point at station state anyText _=?_
+  unfolding fieldWidth partWidth parts columns _=?_
   at-latitude e = rw e
 
   pub at-latitude-letter : c ≡ 56 → 1 ≡ fieldWidth c point
-  unfolding fieldWidth partWidth parts columns point at station state anyText _=?_
+  unfolding fieldWidth partWidth parts columns _=?_
   at-latitude-letter e = rw e
 
   pub at-longitude : c ≡ 57 → 12 ≡ fieldWidth c point
-  unfolding fieldWidth partWidth parts columns point at station state anyText _=?_
+  unfolding fieldWidth partWidth parts columns _=?_
   at-longitude e = rw e
 
   pub at-longitude-letter : c ≡ 69 → 1 ≡ fieldWidth c point
-  unfolding fieldWidth partWidth parts columns point at station state anyText _=?_
+  unfolding fieldWidth partWidth parts columns _=?_
   at-longitude-letter e = rw e
 
   -- elsewhere
   tail-plain : all plain (at 70 (blank 7) ∷ at 77 state ∷ at 79 (blank 2) ∷ []) ≡ true
-  unfolding all plain isAngle width at state _≤?_ _&_
+  unfolding all plain isAngle width _≤?_ _&_
   tail-plain = refl
 
   station-plain : plain (at 11 station) ≡ true
-  unfolding plain isAngle width at station _≤?_
+  unfolding plain isAngle width _≤?_
   station-plain = refl
 
   name-plain : plain (at 15 (anyText 30)) ≡ true
-  unfolding plain isAngle width at anyText _≤?_
+  unfolding plain isAngle width _≤?_
   name-plain = refl
 
   latitude-parts : parts (at 45 (angle latitude) .item) ≡ 11 ∷ 1 ∷ []
-  unfolding parts columns at
+  unfolding parts columns
   latitude-parts = refl
 
   longitude-parts : parts (at 57 (angle longitude) .item) ≡ 12 ∷ 1 ∷ []
-  unfolding parts columns at
+  unfolding parts columns
   longitude-parts = refl
 
   last-three : fieldWidth c (at 70 (blank 7) ∷ at 77 state ∷ at 79 (blank 2) ∷ []) ≡ cond (c =? 70) 7 (cond (c =? 77) 2 (cond (c =? 79) 2 0))
-  unfolding widthFrom at state width
+  unfolding widthFrom width
   last-three = plain-is c (at 70 (blank 7) ∷ at 77 state ∷ at 79 (blank 2) ∷ []) tail-plain
 
   pub elsewhere : (c ≡ 45 → ⊥) → (c ≡ 56 → ⊥) → (c ≡ 57 → ⊥) → (c ≡ 69 → ⊥) → (r : ℕ) → r ≡ plainWidth c → r ≡ fieldWidth c point
-  unfolding point plainWidth at anyText station width
+  unfolding plainWidth width
   elsewhere h i j k r z =
       z
       ∙ sym

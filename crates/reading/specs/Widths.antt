@@ -1,5 +1,5 @@
 -- The width of the field that starts at a column, as the code looks it up.
-use mathlib.Core.Bool.{Bool, true, false, cond}
+use mathlib.Core.Bool.{cond}
 use mathlib.Core.List.{List, [], _∷_}
 use Prim.Native.Nat.{ℕ}
 use Rattle.rules.specs.Tests.{_=?_}

@@ -2,7 +2,6 @@
 mod print;
 mod refusals;
 
-use kinds::Fault;
 use kinds::Reading;
 use kinds::Record;
 use kinds::Sequence;

@@ -1,15 +1,15 @@
 -- Wrong rewriters that the promise does not allow: 01, "How tight the promises are".
 use mathlib.Core.Path.{_≡_, refl, sym, _∙_, ap}
-use mathlib.Core.Bool.{Bool, true, false}
-use mathlib.Core.List.{List, [], _∷_, _++_}
+use mathlib.Core.Bool.{true}
+use mathlib.Core.List.{List}
 use Prim.Native.String.{String}
-use Prim.Native.Nat.{ℕ, _+_, _≤_, _<_}
+use Prim.Native.Nat.{ℕ, _≤_, _<_}
 use native.Mathlib.Omega.{arith}
 use lib.ListN.{length, take, drop, getD, replicate}
 use lib.Seq.{getD-take, getD-drop}
-use Rattle.rules.specs.Files.{accept, isAccept, verdict, accepted, rewritten}
+use Rattle.rules.specs.Files.{accept, isAccept, accepted}
 use Rattle.rules.specs.Chapter4.{chapter4}
-use Rattle.rules.proofs.Samples.{bytesOf, judged, styled, full, full-accepted, dressed, dressed-accepted, spoken, spoken-accepted, same-when-rewritten, spoken-is-another}
+use Rattle.rules.proofs.Samples.{bytesOf, judged, styled, full, full-accepted, dressed, spoken, spoken-accepted, spoken-is-another}
 use Rattle.kinds.specs.declared.Checked.{Checked}
 use Rattle.walk.proofs.Refuted.{table, table-long}
 use Rattle.rewriting.specs.Promise.{Promised}

@@ -13,7 +13,7 @@ use Rattle.rules.specs.Items.{Value, gap, missing, num, text, label, Item, blan
 use Rattle.rules.specs.Fields.{Field, given, entriesOf, isFormed, formed}
 use Rattle.rules.specs.Records.{Meaning, told, meant}
 use Rattle.rules.specs.Kinds.{dataCodes, kindFrom, starred, kindBetween, kindOf, known}
-use Rattle.rules.specs.Layouts.{at, tied, station, instrument, antenna, initials, state, anyText, metres, letterOrBlank, kept, titled, project, occupation, comment, measurement, receiver, aerial, point, heights, layouts, layout}
+use Rattle.rules.specs.Layouts.{at, kept, layouts, layout}
 use Rattle.rules.specs.Chapter4.{chapter4}
 use Rattle.rules.proofs.Truth.{both, to≤, to≡, of≢, cases, to-within}
 use Rattle.columns.specs.Types.{natOf, intOf, heightOf, heightValue, mediaOf, mediaValue, four, fourOf}
@@ -153,7 +153,7 @@ upto (suc n) P h (suc k) = upto n (λ i. P (suc i)) (h .1) k
 -- ---- of each kind: the values of its record are those that its fields give
 values-back : (k : ℕ) (c : List ℕ) (v : ℕ → Value)
     → let ts = texts (getD layouts k kept) v in valuesOf (recordFrom k c v) (getD ts 0 []) (getD ts 1 []) (getD ts 2 []) ≡ backs (getD layouts k kept) v
-unfolding Upto layouts kept titled project occupation comment measurement receiver aerial point heights at tied station instrument antenna initials state anyText metres letterOrBlank texts backs back isLong backText valuesOf recordFrom charOf _=?_ _≤?_
+unfolding Upto layouts texts backs back isLong backText valuesOf recordFrom charOf _=?_ _≤?_
 values-back k c v =
     upto 14 (λ k. let ts = texts (getD layouts k kept) v in valuesOf (recordFrom k c v) (getD ts 0 []) (getD ts 1 []) (getD ts 2 []) ≡ backs (getD layouts k kept) v)
     (refl, (refl, (refl, (refl, (refl, (refl, (refl, (refl, (refl, (refl, (refl, (refl, (refl, (refl, (λ k. refl))))))))))))))) k

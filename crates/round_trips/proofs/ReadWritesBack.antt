@@ -22,7 +22,6 @@ use Rattle.rules.proofs.RecordLaws.{readLine-splits, line-meant, line-numbered}
 use Rattle.rules.proofs.RecordLaws as laws
 use Rattle.kinds.specs.declared.Sequence.{Sequence}
 use Rattle.kinds.specs.declared.Record.{Record}
-use Rattle.kinds.specs.declared.Record.the-variants as R
 use Rattle.kinds.specs.declared.Reading.{Reading}
 use Rattle.kinds.specs.declared.Written.{Written}
 use Rattle.kinds.specs.Values.{sequenceOf, sequenceValue, kindNumber, recordFrom, recordOf, meaningOf, readingOf, writtenOf}

@@ -12,7 +12,7 @@ use Rattle.rules.specs.Fields.{Field, Verdict, ok, fault, isOk, columnsOf, valu
 use Rattle.rules.specs.Records.{codeAt, readLine, meaning}
 use Rattle.rules.specs.Files.{lineAt, begun}
 use Rattle.rules.specs.Kinds.{kindOf}
-use Rattle.rules.specs.Layouts.{at, tied, station, instrument, antenna, initials, state, anyText, metres, letterOrBlank, kept, titled, project, occupation, comment, measurement, receiver, aerial, point, heights, layouts, layout}
+use Rattle.rules.specs.Layouts.{kept, layouts, layout}
 use Rattle.rules.specs.Calls.{readAs, readOf, isRead, partWidth, fieldWidth, widthAsked, fieldOf}
 use Rattle.rules.specs.Chapter4.{chapter4}
 use Rattle.rules.proofs.Truth.{to≡, no≡, above-0, cases}
@@ -27,7 +27,7 @@ use Rattle.round_trips.proofs.MeaningBack.{texts, textsOf, Upto, upto}
 pub columns-are : map longColumns layouts ≡
     (11 ∷ []) ∷ (11 ∷ []) ∷ (11 ∷ []) ∷ (26 ∷ 47 ∷ []) ∷ [] ∷ (11 ∷ []) ∷ [] ∷ (23 ∷ 63 ∷ 71 ∷ []) ∷ (17 ∷ 45 ∷ []) ∷ (15 ∷ []) ∷ (30 ∷ 57 ∷ [])
     ∷ (11 ∷ []) ∷ (11 ∷ []) ∷ (11 ∷ []) ∷ []
-unfolding layouts kept titled project occupation comment measurement receiver aerial point heights at tied station instrument antenna initials state anyText metres letterOrBlank isLong longColumns _≤?_
+unfolding layouts isLong longColumns _≤?_
 columns-are = refl
 
 -- and the texts, where they stand in a line
@@ -35,7 +35,7 @@ abbrev InLine : List ℕ → List Field → Type 0
 InLine l fs = texts fs (λ i. getD (values fs l) i gap) ≡ map (λ c. take (fieldWidth c fs) (drop (c - 1) l)) (longColumns fs)
 
 in-line : (l : List ℕ) (k : ℕ) → InLine l (getD layouts k kept)
-unfolding Upto layouts kept titled project occupation comment measurement receiver aerial point heights at tied station instrument antenna initials state anyText metres letterOrBlank texts isLong longColumns values valueOf columnsOf width columns parts partWidth fieldWidth textOf _=?_ _≤?_
+unfolding Upto layouts texts isLong longColumns values valueOf columnsOf width columns parts partWidth fieldWidth textOf _=?_ _≤?_
 in-line l k = upto 14 (λ k. InLine l (getD layouts k kept)) (refl, (refl, (refl, (refl, (refl, (refl, (refl, (refl, (refl, (refl, (refl, (refl, (refl, (refl, (λ k. refl))))))))))))))) k
 
 -- ---- a part of the first m

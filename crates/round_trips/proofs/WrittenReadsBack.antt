@@ -12,7 +12,7 @@ use Rattle.rules.specs.Fields.{Verdict, ok, fault, isOk}
 use Rattle.rules.specs.Records.{sequence, codeAt, readLine, meaning}
 use Rattle.rules.specs.Files.{lineAt, begun}
 use Rattle.rules.specs.Kinds.{kindOf}
-use Rattle.rules.specs.Layouts.{at, tied, station, instrument, antenna, initials, state, anyText, metres, letterOrBlank, kept, titled, project, occupation, comment, measurement, receiver, aerial, point, heights, layouts, layout}
+use Rattle.rules.specs.Layouts.{at, kept, layouts, layout}
 use Rattle.rules.specs.Calls.{readAs, readOf, fieldOf}
 use Rattle.rules.specs.Chapter4.{chapter4}
 use Rattle.kinds.specs.declared.Sequence.{Sequence}
@@ -37,7 +37,7 @@ read-ok n l (fault a b) h = cc
 -- the long texts among a record's values are those that were given beside it
 texts-given : (w : Record) (a b c : List ℕ)
     → texts (getD layouts (kindNumber w) kept) (λ i. getD (valuesOf w a b c) i gap) ≡ take (length (longColumns (getD layouts (kindNumber w) kept))) (a ∷ b ∷ c ∷ [])
-unfolding kindNumber valuesOf textOf texts isLong longColumns layouts kept titled project occupation comment measurement receiver aerial point heights at tied station instrument antenna initials state anyText metres letterOrBlank _≤?_
+unfolding kindNumber valuesOf textOf texts isLong longColumns layouts _≤?_
 texts-given (R.Job r) a b c = refl
 texts-given (R.Title r) a b c = refl
 texts-given (R.Continuation r) a b c = refl

@@ -1,24 +1,23 @@
 -- The tests of agreement are what the paper says: field with field inside a record, and the number at column 11 with the records before.
 use mathlib.Core.Path.{_≡_, refl, sym, _∙_, ap, subst}
-use mathlib.Core.Logic.{_⊎_, inl, inr, _↔_}
-use mathlib.Core.Bool.{Bool, true, false, cond, not, false≢true}
+use mathlib.Core.Logic.{inl, inr, _↔_}
+use mathlib.Core.Bool.{Bool, true, false, not, false≢true}
 use mathlib.Core.List.{List, [], _∷_, map}
-use Prim.Native.Nat.{ℕ, zero, suc, _+_, _≤_, _<_}
+use Prim.Native.Nat.{ℕ, _≤_}
 use native.Mathlib.Omega.{arith}
-use lib.ListN.{length, replicate, getD}
+use lib.ListN.{length, getD}
 use lib.IntN.{pos, negsuc}
-use Rattle.rules.specs.Tests.{all, within, _&_, _≤?_, _=?_}
-use Rattle.rules.specs.Characters.{isBlank}
-use Rattle.rules.specs.Items.{Value, gap, missing, num, text, label, Item, blank, constant, number, height, angle, month, media, word, valueOf, fits, onNumber, good}
-use Rattle.rules.specs.Fields.{Bond, free, notBefore, goesWith, expected, Field, Expect, anything, same, above, Entry, columnsOf, read, entriesOf, values, valueAt, numOf, isMissing, sameTruth, meets, agreesWith, agrees, isFormed, formed, agreeing}
-use Rattle.rules.specs.Records.{Meaning, codeAt, entries, meaning, told}
+use Rattle.rules.specs.Tests.{all, _&_, _≤?_, _=?_}
+use Rattle.rules.specs.Items.{Value, gap, missing, num, text, label, Item, blank, constant, number, height, angle, month, media, word, valueOf, fits, onNumber}
+use Rattle.rules.specs.Fields.{Bond, free, notBefore, goesWith, expected, Field, Expect, same, Entry, columnsOf, read, valueAt, numOf, isMissing, sameTruth, meets, agreesWith, agrees, isFormed, formed, agreeing}
+use Rattle.rules.specs.Records.{codeAt, entries, meaning, told}
 use Rattle.rules.specs.Kinds.{kindOf, *27*, *70*, *72*, *86*}
-use Rattle.rules.specs.Layouts.{at, tied, station, instrument, antenna, measurement, receiver, aerial, heights, kept, layouts, layout}
+use Rattle.rules.specs.Layouts.{kept, layouts, layout}
 use Rattle.rules.specs.References.{numberAt}
-use Rattle.rules.specs.Chapter4.{Past, expectation, chapter4}
+use Rattle.rules.specs.Chapter4.{chapter4}
 use Rattle.rules.specs.Members.{_∈_}
 use Rattle.rules.specs.Conforms.{Absent, Agreed}
-use Rattle.rules.proofs.Truth.{all-members, members-all, both, and, to≤, of≤, to≡, of≡, cases, to-within}
+use Rattle.rules.proofs.Truth.{all-members, members-all, both, to≤, of≤, cases, to-within}
 use Rattle.rules.proofs.Lawful.{blanks, good-fits}
 use Rattle.rules.proofs.SetLaws.{same-truth}
 use Rattle.rules.proofs.FormLaws.{all-blank}
@@ -109,7 +108,7 @@ unfoldable pub waiting-kinds : List ℕ
 waiting-kinds = *27* ∷ *70* ∷ *72* ∷ *86* ∷ []
 
 leading : all (λ k. leads (getD layouts k kept)) waiting-kinds ≡ true
-unfolding all leads waits fromOne waiting-kinds layouts measurement receiver aerial heights at tied station instrument antenna _=?_ _≤?_ _&_
+unfolding all leads waits fromOne waiting-kinds layouts _=?_ _≤?_ _&_
 leading = refl
 
 pub lead-of : (c : List ℕ) → kindOf c ∈ waiting-kinds → leads (layout c) ≡ true

@@ -80,11 +80,11 @@ check-bounds (k ∷ ks) n c h (inl x) = omega (arith, x .1, x .2, to-within (bot
 check-bounds (k ∷ ks) n c h (inr x) = check-bounds ks n c (both h .1) x
 
 -- what is asked of an edition
-pub record Placed {S : Type 0} (E : Edition S) : Type 0 where
+pub record Confined {S : Type 0} (E : Edition S) : Type 0 where
   pub covering : (c : List ℕ) → covers 11 (E .layout c) ≡ true
   pub referring : (file : List Meaning) (r : ℕ) (m : Meaning) → all isReference (E .refs file r m) ≡ true
 
-module _ {S : Type 0} (E : Edition S) (placed : Placed E) where
+module _ {S : Type 0} (E : Edition S) (placed : Confined E) where
   entries-in : (l : List ℕ) → all inColumns (entries E l) ≡ true
   unfolding entries
   entries-in l = read-in 11 (E .layout (codeAt l)) l (omega arith) (placed .covering (codeAt l))
@@ -144,7 +144,7 @@ module _ {S : Type 0} (E : Edition S) (placed : Placed E) where
           either (λ y. absurd (omega (arith, second, has-later E sound refs f n r c (first .0)))) (λ y. either (λ z. omega arith) (λ z. omega (arith, z .0)) (y .1))
 
 -- ---- Chapter 4
-placed : Placed chapter4
+placed : Confined chapter4
 placed = record { covering = layout-covers; referring = λ file r m. unfold all isReference refChecks within _≤?_ _&_ in refl }
 
 -- a fault that is named is a fault

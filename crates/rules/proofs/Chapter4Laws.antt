@@ -1,8 +1,8 @@
 -- Chapter 4 is a sound edition: its codes have four characters, its layouts fill columns 11-80, its references are judged in the paper's order.
 use mathlib.Core.Path.{_≡_, refl, sym, _∙_, ap, ap₂}
-use mathlib.Core.Bool.{Bool, true}
+use mathlib.Core.Bool.{true}
 use mathlib.Core.List.{List, [], _∷_, map}
-use Prim.Native.Nat.{ℕ, zero, suc, _+_, _-_, _≤_, _<_}
+use Prim.Native.Nat.{ℕ, suc, _+_, _-_, _≤_, _<_}
 use native.Mathlib.Omega.{arith}
 use lib.ListN.{length, take, drop, getD}
 use lib.Seq.{drop-drop}
@@ -13,12 +13,12 @@ use Rattle.rules.specs.Fields.{Field, columnsOf, values, covers}
 use Rattle.rules.specs.Records.{codeAt, meaning}
 use Rattle.rules.specs.Files.{lines, meanings}
 use Rattle.rules.specs.Kinds.{starred, kindBetween, kindOf, known}
-use Rattle.rules.specs.Layouts.{at, tied, station, instrument, antenna, initials, state, anyText, metres, letterOrBlank, kept, titled, project, occupation, comment, measurement, receiver, aerial, point, heights, layouts, layout}
+use Rattle.rules.specs.Layouts.{at, kept, layouts, layout}
 use Rattle.rules.specs.Order.{mayCome, placeNamed, placeAfter, ruled, order, goto}
 use Rattle.rules.specs.References.{refChecks}
 use Rattle.rules.specs.Faults.{stage, phase}
 use Rattle.rules.specs.Chapter4.{chapter4}
-use Rattle.rules.proofs.Truth.{both, and, to≤, to≡, of-within, cases, choice, either, below-or-equal, all-getD}
+use Rattle.rules.proofs.Truth.{under, tried, both, and, to≤, to≡, of-within, cases, choice, all-getD}
 use Rattle.rules.proofs.Lawful.{digit-printable, letter-printable}
 use Rattle.rules.proofs.RecordLaws.{Sound}
 use Rattle.rules.proofs.FaultLaws.{sorted, beforeAll}
@@ -26,11 +26,11 @@ use Rattle.rules.proofs.FileFaults.{SoundRefs, allLate}
 
 -- ---- each layout covers columns 11-80 without gap or overlap: one computed test over all of them
 layouts-cover : all (covers 11) layouts ≡ true
-unfolding all covers layouts kept titled project occupation comment measurement receiver aerial point heights at tied station instrument antenna initials state anyText metres letterOrBlank width columns _=?_ _≤?_ _&_
+unfolding all covers layouts width columns _=?_ _≤?_ _&_
 layouts-cover = refl
 
 kept-covers : covers 11 kept ≡ true
-unfolding covers kept at anyText width _=?_ _≤?_ _&_
+unfolding covers width _=?_ _≤?_ _&_
 kept-covers = refl
 
 pub layout-covers : (c : List ℕ) → covers 11 (layout c) ≡ true
@@ -78,21 +78,12 @@ sound-refs = record {
 }
 
 -- ---- the array of rows is the paper's table: one computed test over all places and kinds, and a lemma that holds for any table
-unfoldable pub allBelow : ℕ → (ℕ → Bool) → Bool
-allBelow zero p = true
-allBelow (suc n) p = p n & allBelow n p
-
-pub below-holds : (n : ℕ) (p : ℕ → Bool) → allBelow n p ≡ true → (i : ℕ) → i < n → p i ≡ true
-unfolding allBelow
-below-holds zero p h i k = absurd (omega arith)
-below-holds (suc n) p h i k = either (λ l. below-holds n p (both h .1) i l) (λ e. rw e (both h .0)) (below-or-equal i n (omega arith))
-
-order-agrees : allBelow 17 (λ p. allBelow 14 (λ k. goto order p k =? ruled p k)) ≡ true
-unfolding allBelow goto ruled order mayCome placeAfter placeNamed anyOf _=?_ _&_
+order-agrees : all (λ p. all (λ k. goto order p k =? ruled p k) (under 14)) (under 17) ≡ true
+unfolding all under goto ruled order mayCome placeAfter placeNamed anyOf _=?_ _&_
 order-agrees = refl
 
 pub order-is-the-table : (place kind : ℕ) → place < 17 → kind < 14 → goto order place kind ≡ ruled place kind
-order-is-the-table place kind p k = to≡ (below-holds 14 _ (below-holds 17 _ order-agrees place p) kind k)
+order-is-the-table place kind p k = to≡ (tried _ 14 kind (tried _ 17 place order-agrees p) k)
 
 -- ---- columns 1-6 have no meaning: lines that differ in them only mean the same, and so do files
 columns-behind : (f : Field) (l k : List ℕ) → 7 ≤ f .from → drop 6 l ≡ drop 6 k → columnsOf f l ≡ columnsOf f k

@@ -1,7 +1,7 @@
 -- A file is accepted exactly when it is what the paper's tables say, record by record: each test of a record is what the paper says of it where those before it stand.
 use mathlib.Core.Path.{_≡_, refl, sym, _∙_, ap, ap₂, subst}
 use mathlib.Core.Logic.{_⊎_, inl, inr, _↔_}
-use mathlib.Core.Bool.{Bool, true, false, cond, false≢true}
+use mathlib.Core.Bool.{true, false, cond, false≢true}
 use mathlib.Core.List.{List, [], _∷_, map}
 use Prim.Native.Nat.{ℕ, zero, suc, _+_, _*_, _≤_, _<_}
 use native.Mathlib.Omega.{arith}
@@ -20,17 +20,16 @@ use Rattle.rules.specs.Order.{mayCome, placeNamed, placeAfter, ruled, or
 use Rattle.rules.specs.References.{numberAt}
 use Rattle.rules.specs.Chapter4.{Past, atStart, sameBytes, mayStand, expectation, chapter4}
 use Rattle.rules.specs.Members.{_∈_}
-use Rattle.rules.specs.Forms.{Spells}
 use Rattle.rules.specs.Conforms.{kindAt, recordAt, Nearest, Place, Agreed, Stands, Conforms}
-use Rattle.rules.proofs.Truth.{all-members, members-all, both, and, to≤, of≤, no≤, to≡, of≡, no≡, of≢, cases, either, below-or-equal}
+use Rattle.rules.proofs.Truth.{under, tried, all-members, members-all, both, and, to≤, of≤, no≤, to≡, of≡, no≡, of≢, cases, either, below-or-equal}
 use Rattle.rules.proofs.SetLaws.{any-member, member-any, printed-in, printed-of}
 use Rattle.rules.proofs.SpellLaws.{spelled-iff, code-iff}
 use Rattle.rules.proofs.FieldLaws.{isOk-⨾, isOk-check}
 use Rattle.rules.proofs.RecordLaws.{bytes-length, agreeing-line}
 use Rattle.rules.proofs.FileLaws.{accepted-splits, accepted-parts, records, length-take-most, line-at}
 use Rattle.rules.proofs.ReferenceLaws.{references-iff}
-use Rattle.rules.proofs.Chapter4Laws.{allBelow, below-holds, order-is-the-table}
-use Rattle.rules.proofs.Keeping.{Kept, kept-same, same-kept, above-kept, group-is, point-is, instrument-is, antenna-is, instrument-top, antenna-top, Placed, at-start, place-one, placed, job-is}
+use Rattle.rules.proofs.Chapter4Laws.{order-is-the-table}
+use Rattle.rules.proofs.Keeping.{kept-same, same-kept, above-kept, group-is, point-is, instrument-is, antenna-is, instrument-top, antenna-top, Placed, at-start, place-one, placed, job-is}
 use Rattle.rules.proofs.AgreeLaws.{waiting-kinds, lead-of, all-map, agreeing-each, each-agreeing, met, waits-met, number-from-1}
 
 -- ---- bytes
@@ -53,15 +52,15 @@ bytes-of (suc n) c (b ∷ bs) k p q =
     isOk-⨾ (check (isPrintable b) 4 c) (bytes n (c + 1) bs) ∙ and (isOk-check (isPrintable b) 4 c ∙ both p .0) (bytes-of n (c + 1) bs (omega arith) (both p .1) q)
 
 -- ---- what may follow what
-leads-on : allBelow 17 (λ p. allBelow 14 (λ k. 1 ≤? placeAfter p k)) ≡ true
-unfolding allBelow placeAfter placeNamed _≤?_ _=?_ _&_
+leads-on : all (λ p. all (λ k. 1 ≤? placeAfter p k) (under 14)) (under 17) ≡ true
+unfolding all under placeAfter placeNamed _≤?_ _=?_ _&_
 leads-on = refl
 
 comes-iff : (p k : ℕ) → p < 17 → k < 14 → (1 ≤? goto order p k ≡ true) ↔ (anyOf (getD mayCome p []) k ≡ true)
 unfolding ruled
 comes-iff p k h j = (
   (λ e. cases (anyOf (getD mayCome p []) k) (λ t. t) (λ t. absurd (omega (arith, to≤ e, order-is-the-table p k h j ∙ zero-then t)))),
-  (λ t. of≤ (omega (arith, order-is-the-table p k h j ∙ on-then t, to≤ (below-holds 14 _ (below-holds 17 _ leads-on p h) k j)))),
+  (λ t. of≤ (omega (arith, order-is-the-table p k h j ∙ on-then t, to≤ (tried _ 14 k (tried _ 17 p leads-on h) j)))),
 )
   where
     zero-then : anyOf (getD mayCome p []) k ≡ false → ruled p k ≡ 0

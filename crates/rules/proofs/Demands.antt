@@ -1,12 +1,12 @@
 -- The demands, proved for Chapter 4.
 use mathlib.Core.Path.{_≡_, refl, sym, _∙_, ap}
 use mathlib.Core.Logic.{_↔_}
-use mathlib.Core.Bool.{Bool, true, false}
+use mathlib.Core.Bool.{Bool, true}
 use mathlib.Core.List.{List, [], _∷_, map}
-use Prim.Native.Nat.{ℕ, _*_, _≤_, _<_}
-use lib.ListN.{length, length-map}
+use Prim.Native.Nat.{ℕ}
+use lib.ListN.{length-map}
 use Rattle.rules.specs.Records.{codeAt, meaning}
-use Rattle.rules.specs.Files.{Result, lines, meanings, verdict, accepted, rewritten}
+use Rattle.rules.specs.Files.{lines, meanings, verdict, accepted, rewritten}
 use Rattle.rules.specs.Kinds.{kindOf}
 use Rattle.rules.specs.Faults.{FirstOf, HasFault, CallFaults}
 use Rattle.rules.specs.Calls.{outcome}

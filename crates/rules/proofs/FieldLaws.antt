@@ -1,16 +1,16 @@
 -- Fields in a row: form and agreement from the judge, and what is rendered reads back. All of it comes from the fields' lawfulness, once for all kinds.
-use mathlib.Core.Path.{_≡_, refl, sym, _∙_, ap, ap₂, subst}
-use mathlib.Core.Bool.{Bool, true, false, cond, false≢true}
+use mathlib.Core.Path.{_≡_, refl, _∙_, ap, ap₂}
+use mathlib.Core.Bool.{Bool, true, false, cond}
 use mathlib.Core.List.{List, [], _∷_, _++_, append-assoc, map}
-use Prim.Native.Nat.{ℕ, zero, suc, _+_, _-_, _≤_, _<_}
+use Prim.Native.Nat.{ℕ, suc, _+_, _-_, _≤_}
 use native.Mathlib.Omega.{arith}
-use lib.ListN.{length, length-append, take, drop, length-map}
+use lib.ListN.{length, length-append, take, length-map}
 use lib.Seq.{take-at, drop-at}
 use Rattle.rules.specs.Tests.{all, _&_, _≤?_, _=?_}
 use Rattle.rules.specs.Characters.{isPrintable}
-use Rattle.rules.specs.Items.{Value, Item, width, valueOf, fits, render, good, spot}
+use Rattle.rules.specs.Items.{Value, width, valueOf, fits, render}
 use Rattle.rules.specs.Fields.{Bond, free, notBefore, goesWith, expected, Field, Expect, anything, Verdict, ok, fault, _⨾_, check, isOk, Entry, columnsOf, read, given, entriesOf, values, valueAt, numOf, isMissing, sameTruth, meets, agreesWith, agrees, judgeEach, judge, isFormed, formed, agreeing, renders, covers}
-use Rattle.rules.proofs.Truth.{both, and, to≤, to≡, of≡, all-append, all-weaken, &-sort, true-and}
+use Rattle.rules.proofs.Truth.{both, and, to≡, of≡, all-append, all-weaken, &-sort}
 use Rattle.rules.proofs.Lawful.{lawful, good-fits, render-good}
 
 -- ---- verdicts

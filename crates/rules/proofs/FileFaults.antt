@@ -1,18 +1,18 @@
 -- Demand 2 for a file: the verdict is the first of all its faults, and there is only one first.
-use mathlib.Core.Path.{_≡_, refl, sym, _∙_, ap, ap₂, subst}
+use mathlib.Core.Path.{_≡_, refl, sym, _∙_, ap}
 use mathlib.Core.Logic.{_⊎_, inl, inr, _↔_}
 use mathlib.Core.Bool.{Bool, true, false, cond, false≢true, true≢false}
-use mathlib.Core.List.{List, [], _∷_, _++_, map}
-use Prim.Native.Nat.{ℕ, zero, suc, _+_, _-_, _*_, _≤_, _<_}
+use mathlib.Core.List.{List, [], _∷_, map}
+use Prim.Native.Nat.{ℕ, zero, suc, _+_, _≤_, _<_}
 use native.Mathlib.Omega.{arith}
 use lib.ListN.{length, take, getD}
 use lib.Seq.{take-length}
 use Rattle.rules.specs.Tests.{_&_, _≤?_, _=?_}
 use Rattle.rules.specs.Fields.{Verdict, ok, fault, _⨾_, check, Check, run}
 use Rattle.rules.specs.Records.{Meaning, Edition, judgeLine, meaning}
-use Rattle.rules.specs.Files.{Result, accept, refuse, isAccept, inRecord, andThen, lineAt, begun, linesFrom, lines, meanings, passed, walk, refer, verdict, accepted}
-use Rattle.rules.specs.Faults.{Faults, FileFaults, _∪_, Fails, Some, CheckFaults, phase, stage, Before, Precedes, First, FirstOf, LineFaults, RecordFaults, before, HasFault, CallFaults}
-use Rattle.rules.proofs.Truth.{both, to≤, of≤, to≡, is-no, either}
+use Rattle.rules.specs.Files.{Result, accept, refuse, isAccept, inRecord, andThen, begun, lines, meanings, passed, walk, refer, verdict}
+use Rattle.rules.specs.Faults.{Faults, FileFaults, Fails, Some, CheckFaults, phase, stage, Before, Precedes, First, FirstOf, LineFaults, RecordFaults, before, HasFault, CallFaults}
+use Rattle.rules.proofs.Truth.{both, of≤, to≡, is-no, either}
 use Rattle.rules.proofs.RecordLaws.{Sound}
 use Rattle.rules.proofs.FileLaws.{records, line-at}
 use Rattle.rules.proofs.FaultLaws.{by-stage, by-number, before-antisym, at-2, at-8, first-then, first-check, first-run, sorted, first-line, line-stage}

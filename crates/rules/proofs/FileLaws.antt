@@ -2,19 +2,18 @@
 use mathlib.Core.Path.{_≡_, refl, sym, _∙_, ap, ap₂, subst}
 use mathlib.Core.Logic.{_↔_}
 use mathlib.Core.Bool.{Bool, true, false, cond, false≢true}
-use mathlib.Core.List.{List, [], _∷_, _++_, append-assoc, append-nil, map}
-use Prim.Native.Nat.{ℕ, zero, suc, _+_, _-_, _*_, _/_, _%_, _≤_, _<_}
+use mathlib.Core.List.{List, [], _∷_, _++_, append-assoc, map}
+use Prim.Native.Nat.{ℕ, zero, suc, _+_, _-_, _*_, _/_, _≤_, _<_}
 use native.Mathlib.Omega.{arith}
-use native.Mathlib.Numerals.{add-one}
 use lib.ListN.{length, length-append, length-map, length-drop, take, drop, getD}
-use lib.Seq.{take-at, drop-at, drop-drop, take-suc}
+use lib.Seq.{take-at, drop-at}
 use lib.IntN.{pos}
 use Rattle.rules.specs.Tests.{all, _&_, _≤?_, _=?_}
 use Rattle.rules.specs.Items.{num, valueOf}
-use Rattle.rules.specs.Fields.{Verdict, ok, fault, _⨾_, check, isOk, Check, run}
-use Rattle.rules.specs.Records.{Meaning, Edition, sequence, codeAt, judgeLine, meaning, style, formedLine, permitted, meant}
-use Rattle.rules.specs.Files.{Result, accept, refuse, isAccept, inRecord, andThen, lineAt, begun, linesFrom, lines, join, meanings, passed, walk, refer, verdict, accepted, styles, houseStyle, rewritten, formedLines, orderly}
-use Rattle.rules.proofs.Truth.{both, and, to≤, of≤, to≡, of≡, &-sort, true-and}
+use Rattle.rules.specs.Fields.{Verdict, ok, fault, _⨾_, check, isOk}
+use Rattle.rules.specs.Records.{Edition, sequence, codeAt, judgeLine, meaning, meant}
+use Rattle.rules.specs.Files.{Result, accept, refuse, isAccept, inRecord, andThen, lineAt, begun, linesFrom, lines, join, meanings, walk, refer, verdict, accepted, styles, houseStyle, rewritten, formedLines, orderly}
+use Rattle.rules.proofs.Truth.{both, and, to≤, to≡, of≡, &-sort, true-and}
 use Rattle.rules.proofs.FieldLaws.{isOk-⨾, isOk-check}
 use Rattle.rules.proofs.RecordLaws.{Sound, judgeLine-splits, line-meant, line-long, style-meaning, style-formed, style-length, style-number}
 

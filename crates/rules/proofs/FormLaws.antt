@@ -1,22 +1,22 @@
 -- The tests of numbers and signed heights are what the paper says: blanks, perhaps a minus, digits.
 use mathlib.Core.Path.{_≡_, refl, sym, _∙_, ap, ap₂, subst}
-use mathlib.Core.Logic.{_⊎_, inl, inr, _↔_}
-use mathlib.Core.Bool.{Bool, true, false, cond, false≢true, true≢false}
+use mathlib.Core.Logic.{inl, inr}
+use mathlib.Core.Bool.{Bool, true, false, cond, false≢true}
 use mathlib.Core.List.{List, [], _∷_, _++_, append-nil}
 use Prim.Native.Nat.{ℕ, zero, suc, _+_, _-_, _*_, _^_, _≤_, _<_}
 use native.Mathlib.Omega.{arith}
 use native.Mathlib.Nat.{pow-le-pow-right}
 use lib.ListN.{length, length-append, replicate, length-replicate}
-use lib.IntN.{ℤ, pos, negsuc, negℤ}
-use Rattle.rules.specs.Tests.{all, within, _&_, _≤?_, _=?_}
+use lib.IntN.{pos}
+use Rattle.rules.specs.Tests.{all, _&_, _≤?_, _=?_}
 use Rattle.rules.specs.Characters.{isBlank, isDigit}
 use Rattle.rules.specs.Digits.{val}
 use Rattle.rules.specs.Items.{Value, missing, num, number, height, numForm, heightForm, minus, signed, valueOf, fits, onNumber, width, shape, good}
-use Rattle.rules.specs.Forms.{IsNumber, IsHeight, NumberField, HeightField}
-use Rattle.rules.proofs.Truth.{both, and, to≤, of≤, no≤, to≡, of≡, of-within, to-within, cases, all-weaken, all-append, not-both, is-no}
+use Rattle.rules.specs.Forms.{NumberField, HeightField}
+use Rattle.rules.proofs.Truth.{both, and, to≤, of≤, no≤, to≡, of≡, of-within, to-within, cases, all-weaken, is-no}
 use Rattle.rules.proofs.SetLaws.{digits-in, digits-of}
 use Rattle.rules.proofs.DigitLaws.{notAbove9, val-lt}
-use Rattle.rules.proofs.Lawful.{digit-not-blank, digit-not-minus, digits-not-blank, blanks, blanks-numForm, digits-numForm, blanks-heightForm, digits-heightForm, digits-no-minus}
+use Rattle.rules.proofs.Lawful.{digits-not-blank, blanks, blanks-numForm, digits-numForm, blanks-heightForm, digits-heightForm, digits-no-minus}
 
 -- ---- blanks in front
 pub all-blank : (bs : List ℕ) → all isBlank bs ≡ true → bs ≡ replicate (length bs) 32

@@ -1,9 +1,9 @@
 -- What is kept of the records before is what the paper says of them: the place in the order, the first record's job code, the open group's station, the last *80*'s, *70*'s and *72*'s number.
 use mathlib.Core.Path.{_≡_, refl, sym, _∙_, ap, subst}
 use mathlib.Core.Logic.{_⊎_, inl, inr}
-use mathlib.Core.Bool.{Bool, true, false, cond, not, false≢true}
+use mathlib.Core.Bool.{Bool, true, false, cond, false≢true}
 use mathlib.Core.List.{List, [], _∷_, map}
-use Prim.Native.Nat.{ℕ, zero, suc, _+_, _-_, _≤_, _<_}
+use Prim.Native.Nat.{ℕ, zero, suc, _+_, _≤_, _<_}
 use native.Mathlib.Omega.{arith}
 use lib.ListN.{length, take, getD, set}
 use lib.Seq.{getD-set-other}
@@ -11,14 +11,15 @@ use Rattle.rules.specs.Tests.{all, within, _&_, _≤?_, _=?_}
 use Rattle.rules.specs.Characters.{anyOf}
 use Rattle.rules.specs.Records.{Meaning, Edition, codeAt, meaning, permitted}
 use Rattle.rules.specs.Files.{lineAt, begun, lines, passed}
-use Rattle.rules.specs.Kinds.{kindOf, *AA*, *25*, *26*, *27*, *70*, *72*, *80*}
+use Rattle.rules.specs.Kinds.{*AA*, *25*, *26*, *27*, *70*, *72*, *80*}
 use Rattle.rules.specs.Order.{mayCome, placeNamed, placeAfter, ruled, order, goto, nothing, firstJob, after25, first27, second27, third27, lastJob}
 use Rattle.rules.specs.References.{isA, numberAt, asked}
 use Rattle.rules.specs.Faults.{before}
 use Rattle.rules.specs.Chapter4.{Past, atStart, mayStand, latest, after, chapter4}
-use Rattle.rules.specs.Conforms.{kindAt, recordAt, Nearest, Group, between, Measured, Place}
-use Rattle.rules.proofs.Truth.{both, and, to≤, of≤, no≤, of>, to≡, of≡, no≡, of≢, cases, either, all-getD, under, tried, to-within, of-within, below-or-equal}
+use Rattle.rules.specs.Conforms.{kindAt, recordAt, Nearest, Group, between, Place}
+use Rattle.rules.proofs.Truth.{both, to≤, of≤, no≤, of>, to≡, of≡, no≡, of≢, cases, either, all-getD, under, tried, to-within, of-within, below-or-equal}
 use Rattle.rules.proofs.FileLaws.{records, line-at}
+use Rattle.rules.proofs.ReferenceLaws.{when-asked}
 use Rattle.rules.proofs.Chapter4Laws.{order-is-the-table}
 
 -- ---- one record more
@@ -216,11 +217,6 @@ unfolding goto
 goto-small p k =
     let row : all (λ q. q ≤? 16) (getD order p []) ≡ true = all-getD (λ r. all (λ q. q ≤? 16) r) order [] p places-small (unfold all in refl) in
     omega (arith, to≤ (all-getD (λ q. q ≤? 16) (getD order p []) 0 k row (of≤ (omega arith))))
-
-when-asked : (a b : Bool) → asked a b ≡ true → a ≡ true → b ≡ true
-unfolding asked
-when-asked true b h e = h
-when-asked false b h e = absurd (false≢true e)
 
 -- a place that is made by another record than a job code or a *27*
 named-other : (job measured k : ℕ) → (k ≡ *AA* → ⊥) → (k ≡ *27* → ⊥) → placeNamed job measured k ≡ placeNamed 0 0 k

@@ -1,18 +1,18 @@
 -- Each kind of field is lawful: a value that it can hold is written in its width and form, and reads back.
 use mathlib.Core.Path.{_≡_, refl, sym, _∙_, ap, ap₂, subst}
-use mathlib.Core.Bool.{Bool, true, false, not, cond, false≢true}
+use mathlib.Core.Bool.{Bool, true, false, cond, false≢true}
 use mathlib.Core.List.{List, [], _∷_, _++_}
 use Prim.Native.Nat.{ℕ, zero, suc, _+_, _-_, _*_, _/_, _%_, _^_, _≤_, _<_}
 use native.Mathlib.Omega.{arith}
 use lib.ListN.{length, length-append, replicate, length-replicate, take, drop, getD}
 use lib.Seq.{take-at, drop-at, getD-at, take-add, drop-drop, getD-drop}
-use lib.IntN.{ℤ, pos, negsuc, negℤ}
+use lib.IntN.{pos, negsuc}
 use Rattle.rules.specs.Tests.{all, within, _&_, _≤?_, _=?_}
 use Rattle.rules.specs.Characters.{ascii, isPrintable, isBlank, isDigit, isLetter, anyOf, titleMarks, isTitle, Set, letter, digit, space, printable, title, name, only, _or_, member}
 use Rattle.rules.specs.Digits.{val, put}
 use Rattle.rules.specs.Items.{Value, gap, missing, num, text, label, Way, latitude, longitude, Test, each, orBlank, Item, blank, constant, number, height, angle, month, media, word}
 use Rattle.rules.specs.Items.{numForm, heightForm, minus, signed, passes, angleOf, dms, dmsForm, columns, top, low, plus, minusOf, angleValue, isMonth, isMedia, onGap, onNumber, onText, onLabel, width, shape, valueOf, fits, render, good, angleDigits, spot}
-use Rattle.rules.proofs.Truth.{all-append, all-weaken, all-replicate, of-within, to-within, both, and, to≤, of≤, to≡, of≡, is-no, choice, cases}
+use Rattle.rules.proofs.Truth.{all-append, all-weaken, all-replicate, of-within, to-within, both, and, to≤, of≤, to≡, of≡, is-no, choice}
 use Rattle.rules.proofs.DigitLaws.{length-put, digits-put, val-put}
 
 -- ---- all that records and files use of a field

@@ -1,6 +1,6 @@
 -- The limits of every call and what each refusal leaves, for every file, table, output and record: the value at a limit, and the value beside it.
 use mathlib.Core.Path.{_≡_, refl, _∙_, ap}
-use mathlib.Core.Bool.{Bool, true, false}
+use mathlib.Core.Bool.{true, false}
 use mathlib.Core.List.{List, [], _∷_, _++_, map}
 use Prim.Native.Nat.{ℕ, _≤_, _<_}
 use native.Mathlib.Omega.{arith}
@@ -15,7 +15,7 @@ use Rattle.rules.specs.Chapter4.{atStart, chapter4}
 use Rattle.rules.specs.Calls.{Answer, outcome, bigTable, bigOutput, answer, tableLeft, outputLeft, checkAnswer, checkTable, rewriteRoom, rewriteAnswer, rewriteTable, rewriteOutput, unread, readAs, readOf, isRead, widthAsked, fieldOffset, fieldOf, writeVerdict, writeOutput}
 use Rattle.rules.specs.Sheet.{tabbed, fileLine, listed, sheet}
 use Rattle.rules.specs.Digits.{stripped, numeral}
-use Rattle.rules.proofs.Truth.{and, of≤, of>}
+use Rattle.rules.proofs.Truth.{and, of≤, of>, and-false}
 use Rattle.rules.proofs.Samples.{judged, bytesOf}
 use Rattle.rules.proofs.Edges.{lined}
 
@@ -57,11 +57,6 @@ pub record Untouched (f table out : List ℕ) : Type 0 where
   pub words-stay : rewriteTable f table out ≡ table
   pub bytes-stay : rewriteOutput f table out ≡ out
 
-never : (b : Bool) → b & false ≡ false
-unfolding _&_
-never true = refl
-never false = refl
-
 module _ (f table out : List ℕ) where
   pub untouched : rewriteRoom f table out ≡ false → Untouched f table out
   unfolding rewriteAnswer rewriteTable rewriteOutput outcome tableLeft outputLeft answer refusal isAccept
@@ -77,7 +72,7 @@ module _ (f table out : List ℕ) where
 
   -- 1: an output shorter than the file, a table below 12,000 words
   pub short-output : length out < length f → Untouched f table out
-  short-output h = untouched (unfold rewriteRoom in ap (bigTable table &_) (low-output h) ∙ never (bigTable table))
+  short-output h = untouched (unfold rewriteRoom in ap (bigTable table &_) (low-output h) ∙ and-false (bigTable table))
 
   pub short-table-too : length table < 12_000 → Untouched f table out
   short-table-too h = untouched (unfold rewriteRoom in ap (_& bigOutput f out) (low-table f table h) ∙ (unfold _&_ in refl))
@@ -119,7 +114,7 @@ module _ (f : List ℕ) where
 
   pub read-past : (r : ℕ) → begun f < r → readOf f r ≡ unread 13 r 0
   unfolding readOf
-  read-past r h = let past : r ≤? begun f ≡ false = of> h in simp (past, never)
+  read-past r h = let past : r ≤? begun f ≡ false = of> h in simp (past, and-false)
 
   -- a field of a record that is not read is empty
   pub unread-field : (r c : ℕ) → isRead (readOf f r) ≡ false → (fieldOf f r c ≡ []) × (fieldOffset f r c ≡ 0)

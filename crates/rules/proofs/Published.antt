@@ -1,10 +1,10 @@
 -- 01, "Columns to try": P1 to P12 as one table over the definitions, and the ends of the signed fields.
 use mathlib.Core.Path.{_≡_, refl}
-use mathlib.Core.Bool.{Bool, true, false, cond}
+use mathlib.Core.Bool.{true, false, cond}
 use mathlib.Core.List.{List, [], _∷_}
 use Prim.Native.Nat.{ℕ, _-_}
 use Prim.Native.String.{String}
-use lib.IntN.{ℤ, pos, negsuc}
+use lib.IntN.{pos, negsuc}
 use Rattle.rules.specs.Tests.{all, within, _&_, _≤?_, _=?_}
 use Rattle.rules.specs.Characters.{ascii, isBlank, isDigit}
 use Rattle.rules.specs.Digits.{val, put}
@@ -18,7 +18,7 @@ pub data Outcome : Type 0 where
   is : Value → List ℕ → Outcome
 
 unfoldable pub try : Item → String → Outcome
-unfolding ascii all within _&_ _≤?_ _=?_ isDigit isBlank val put numForm heightForm minus signed angleOf dms dmsForm columns top low plus minusOf angleValue onNumber width shape valueOf fits render good station metres
+unfolding ascii all within _&_ _≤?_ _=?_ isDigit isBlank val put numForm heightForm minus signed angleOf dms dmsForm columns top low plus minusOf angleValue onNumber width shape valueOf fits render good
 try i s = cond (good i (ascii s)) (is (valueOf i (ascii s)) (render i (valueOf i (ascii s)))) bad
 
 -- the number -n, n from 1 on
@@ -56,7 +56,7 @@ pub ends :
     ∷ fits (angle longitude) (below-0 64_799_999_999) ∷ fits (angle longitude) (below-0 64_800_000_000) ∷ [])
     ≡ (true ∷ true ∷ false ∷ true ∷ false ∷ true ∷ true ∷ false ∷ true ∷ false ∷ false
     ∷ true ∷ true ∷ false ∷ true ∷ false ∷ true ∷ false ∷ true ∷ false ∷ [])
-unfolding fits onNumber metres top low below-0 _≤?_ _&_
+unfolding fits onNumber top low below-0 _≤?_ _&_
 ends = refl
 
 -- the sign of half a metre is not lost though its metres are zero

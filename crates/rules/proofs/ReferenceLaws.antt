@@ -84,7 +84,7 @@ alike-is F G h j = record {
   named = to≡ (both h .1) j;
 }
 
-when-asked : (a b : Bool) → asked a b ≡ true → a ≡ true → b ≡ true
+pub when-asked : (a b : Bool) → asked a b ≡ true → a ≡ true → b ≡ true
 unfolding asked
 when-asked true b h e = h
 when-asked false b h e = absurd (false≢true e)

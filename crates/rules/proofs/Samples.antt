@@ -1,28 +1,28 @@
 -- Nothing is vacuous: files that are accepted, files that are refused for each reason, and files that mean the same, by computation.
 use mathlib.Core.Path.{_≡_, refl, sym, _∙_, ap}
-use mathlib.Core.Bool.{Bool, true, false, cond}
+use mathlib.Core.Bool.{true}
 use mathlib.Core.List.{List, [], _∷_, _++_, map}
-use Prim.Native.Nat.{ℕ, zero, suc, _+_, _≤_, _<_}
+use Prim.Native.Nat.{ℕ, zero, suc, _+_, _≤_}
 use Prim.Native.String.{String}
 use native.Mathlib.Omega.{arith}
-use lib.ListN.{length, take, getD, replicate}
-use lib.IntN.{pos, negsuc}
+use lib.ListN.{getD, replicate}
+use lib.IntN.{negsuc}
 use Rattle.rules.specs.Tests.{all, within, _&_, _≤?_, _=?_}
 use Rattle.rules.specs.Characters.{ascii, isPrintable, isBlank, isDigit, isLetter, anyOf, titleMarks, isTitle, member}
 use Rattle.rules.specs.Digits.{val, put, stripped, numeral}
-use Rattle.rules.specs.Items.{Value, gap, missing, num, text, numForm, heightForm, minus, signed, passes, angleOf, dms, dmsForm, columns, top, low, plus, minusOf, angleValue, isMonth, isMedia, onGap, onNumber, onText, onLabel, width, shape, valueOf, fits, render, good, parts, angleDigits, spot}
-use Rattle.rules.specs.Fields.{Verdict, ok, fault, check, _⨾_, isOk, run, columnsOf, read, given, entriesOf, values, valueAt, numOf, isMissing, sameTruth, meets, agreesWith, agrees, judgeEach, judge, renders}
-use Rattle.rules.specs.Records.{Meaning, sequence, bytes, codeAt, entries, numbered, judgeLine, readLine, meaning, told, lineOf, style}
-use Rattle.rules.specs.Files.{Result, accept, refuse, isAccept, inRecord, andThen, lineAt, begun, linesFrom, lines, join, meanings, passed, walk, refer, verdict, accepted, styles, houseStyle, rewritten}
+use Rattle.rules.specs.Items.{Value, missing, num, numForm, heightForm, minus, signed, passes, angleOf, dms, dmsForm, columns, top, low, plus, minusOf, angleValue, isMonth, isMedia, onGap, onNumber, onText, onLabel, width, shape, valueOf, fits, render, good, angleDigits, spot}
+use Rattle.rules.specs.Fields.{ok, check, _⨾_, isOk, run, columnsOf, read, given, entriesOf, values, valueAt, numOf, isMissing, sameTruth, meets, agreesWith, agrees, judgeEach, judge, renders}
+use Rattle.rules.specs.Records.{sequence, bytes, codeAt, entries, numbered, judgeLine, readLine, meaning, told, lineOf, style}
+use Rattle.rules.specs.Files.{Result, accept, refuse, inRecord, andThen, lineAt, begun, linesFrom, lines, join, meanings, passed, walk, refer, verdict, styles, houseStyle, rewritten}
 use Rattle.rules.specs.Kinds.{dataCodes, kindFrom, starred, kindBetween, kindOf, known, *70*, *72*, *80*}
-use Rattle.rules.specs.Layouts.{at, tied, station, instrument, antenna, initials, state, anyText, metres, letterOrBlank, kept, titled, project, occupation, comment, measurement, receiver, aerial, point, heights, layouts, layout}
+use Rattle.rules.specs.Layouts.{layouts, layout}
 use Rattle.rules.specs.Order.{order, goto}
-use Rattle.rules.specs.References.{isA, numberAt, defines, definerFrom, definer, asked, refChecks, tabulate, wordAt, tally, counts}
+use Rattle.rules.specs.References.{isA, numberAt, defines, definerFrom, definer, asked, refChecks, tabulate, tally, counts}
 use Rattle.rules.specs.Chapter4.{Past, atStart, sameBytes, mayStand, expectation, latest, after, chapter4}
-use Rattle.rules.specs.Calls.{Answer, answer, outcome, bigTable, checkAnswer, Reading, unread, readAs, readOf, isRead, partWidth, fieldWidth, widthAsked, fieldOffset, fieldOf}
-use Rattle.rules.proofs.Truth.{of≤, and, all-append, all-replicate}
+use Rattle.rules.specs.Calls.{answer, outcome, bigTable, checkAnswer, Reading, unread, readAs, readOf}
+use Rattle.rules.proofs.Truth.{of≤, all-append, all-replicate}
 use Rattle.rules.proofs.FileLaws.{isLine, lines-join}
-use Rattle.rules.specs.Sheet.{tabbed, fileLine, kindNames, kindLines, listed, sheet}
+use Rattle.rules.specs.Sheet.{tabbed, fileLine, listed, sheet}
 
 unfoldable pub bytesOf : List String → List ℕ
 unfolding ascii
@@ -146,7 +146,7 @@ abbrev pub full : List String
 full = r-job ∷ r-title ∷ r-more ∷ r-project ∷ r-occupy1 ∷ r-comment ∷ r-begin1 ∷ r-end1 ∷ r-occupy2 ∷ r-begin2 ∷ r-begin2 ∷ r-begin2 ∷ r-receiver1 ∷ r-receiver2 ∷ r-aerial1 ∷ r-aerial2 ∷ r-point1 ∷ r-heights1 ∷ r-point2 ∷ r-heights2 ∷ r-network ∷ r-local ∷ r-factor ∷ r-last ∷ []
 
 unfoldable pub judged : List String → Result
-unfolding bytesOf all within _&_ _≤?_ _=?_ isPrintable isBlank isDigit isLetter anyOf titleMarks isTitle member val put numForm heightForm minus signed passes angleOf dms dmsForm columns top low plus minusOf angleValue isMonth isMedia onGap onNumber onText onLabel width shape valueOf fits render good angleDigits spot check _⨾_ isOk run columnsOf read given entriesOf values valueAt numOf isMissing sameTruth meets agreesWith agrees judgeEach judge renders sequence bytes codeAt entries numbered judgeLine readLine meaning told lineOf style inRecord andThen lineAt begun linesFrom lines join meanings passed walk refer verdict styles houseStyle rewritten dataCodes kindFrom starred kindBetween kindOf known at tied station instrument antenna initials state anyText metres letterOrBlank kept titled project occupation comment measurement receiver aerial point heights layouts layout order goto isA numberAt defines definerFrom definer asked refChecks atStart sameBytes mayStand expectation latest after
+unfolding bytesOf all within _&_ _≤?_ _=?_ isPrintable isBlank isDigit isLetter anyOf titleMarks isTitle member val put numForm heightForm minus signed passes angleOf dms dmsForm columns top low plus minusOf angleValue isMonth isMedia onGap onNumber onText onLabel width shape valueOf fits render good angleDigits spot check _⨾_ isOk run columnsOf read given entriesOf values valueAt numOf isMissing sameTruth meets agreesWith agrees judgeEach judge renders sequence bytes codeAt entries numbered judgeLine readLine meaning told lineOf style inRecord andThen lineAt begun linesFrom lines join meanings passed walk refer verdict styles houseStyle rewritten dataCodes kindFrom starred kindBetween kindOf known layouts layout order goto isA numberAt defines definerFrom definer asked refChecks atStart sameBytes mayStand expectation latest after
 judged ls = verdict chapter4 (bytesOf ls)
 
 pub full-accepted : judged full ≡ accept

@@ -1,17 +1,16 @@
 -- The test of each set of characters is the list of its members: tried on the first 128 characters, and no set has another.
-use mathlib.Core.Path.{_≡_, refl, sym, _∙_, ap, ap₂, subst}
-use mathlib.Core.Logic.{_⊎_, inl, inr, _↔_}
+use mathlib.Core.Path.{_≡_, refl, sym, _∙_, ap}
+use mathlib.Core.Logic.{inl, inr}
 use mathlib.Core.Bool.{Bool, true, false, cond, false≢true}
-use mathlib.Core.List.{List, [], _∷_, _++_, map}
+use mathlib.Core.List.{List, [], _∷_, _++_}
 use Prim.Native.Nat.{ℕ, _≤_, _<_}
 use native.Mathlib.Omega.{arith}
-use lib.ListN.{replicate, length}
 use Rattle.rules.specs.Tests.{all, within, _&_, _≤?_, _=?_}
 use Rattle.rules.specs.Characters.{ascii, isPrintable, isBlank, isDigit, isLetter, anyOf, titleMarks, isTitle, Set, letter, digit, space, printable, title, name, only, _or_, member}
 use Rattle.rules.specs.Fields.{sameTruth}
 use Rattle.rules.specs.Members.{_∈_, _⊆_}
 use Rattle.rules.specs.Forms.{charactersOf}
-use Rattle.rules.proofs.Truth.{both, and, to≤, of≤, no≤, to≡, of≡, is-no, cases, choice, not-both, to-within, under, tried, all-weaken, all-members, members-all}
+use Rattle.rules.proofs.Truth.{to≤, no≤, to≡, of≡, is-no, cases, choice, to-within, under, tried, all-weaken, all-members, members-all}
 use Rattle.rules.proofs.Lawful.{member-printable}
 
 -- ---- a list of characters

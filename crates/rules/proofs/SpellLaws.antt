@@ -1,27 +1,27 @@
 -- The test of every kind of field is what the paper says of it, and the value read is the one that is spelled: digits are what their number puts.
 use mathlib.Core.Path.{_≡_, refl, sym, _∙_, ap, ap₂, subst}
-use mathlib.Core.Logic.{_⊎_, inl, inr, _↔_}
-use mathlib.Core.Bool.{Bool, true, false, cond, false≢true}
+use mathlib.Core.Logic.{inl, inr, _↔_}
+use mathlib.Core.Bool.{Bool, true, false, cond}
 use mathlib.Core.List.{List, [], _∷_, _++_, append-assoc, append-nil}
 use Prim.Native.Nat.{ℕ, zero, suc, _+_, _-_, _*_, _/_, _%_, _^_, _≤_, _<_}
 use native.Mathlib.Nat.{mul-assoc, pow-suc}
 use native.Mathlib.Omega.{arith}
-use lib.ListN.{length, length-append, replicate, length-replicate, take, drop, getD, drop-of-length-le}
+use lib.ListN.{length, length-append, replicate, length-replicate, take, getD, drop-of-length-le}
 use lib.Seq.{take-at, getD-at, split-at, length-take-le}
-use lib.IntN.{ℤ, pos, negsuc, negℤ}
+use lib.IntN.{ℤ, pos}
 use Rattle.rules.specs.Tests.{all, within, _&_, _≤?_, _=?_}
-use Rattle.rules.specs.Characters.{isPrintable, isBlank, isDigit, isLetter, Set, letter, digit, printable, _or_, member}
+use Rattle.rules.specs.Characters.{isBlank, isDigit, isLetter, Set, letter, digit, printable, _or_, member}
 use Rattle.rules.specs.Digits.{val, put}
-use Rattle.rules.specs.Items.{Value, gap, missing, num, text, label, Way, latitude, longitude, each, orBlank, Item, blank, constant, number, height, angle, month, media, word}
+use Rattle.rules.specs.Items.{Value, gap, num, label, Way, latitude, longitude, each, orBlank, Item, blank, constant, number, height, angle, month, media, word}
 use Rattle.rules.specs.Items.{signed, passes, render, angleOf, dmsForm, columns, top, low, plus, minusOf, angleValue, isMonth, isMedia, onGap, onNumber, onText, onLabel, width, shape, valueOf, fits, good}
 use Rattle.rules.specs.Kinds.{*AA*, *10*, dataCodes, kindFrom, starred, kindBetween, kindOf, known}
 use Rattle.rules.specs.Members.{_∈_, _⊆_}
 use Rattle.rules.specs.Forms.{charactersOf, IsAngle, Sided, AngleField, MonthField, MediaField, Spells, Code}
-use Rattle.rules.proofs.Truth.{both, and, to≤, of≤, no≤, of>, to≡, of≡, of≢, is-no, to-within, of-within, cases, choice, either, all-append, all-parts, tried, under, true-and}
+use Rattle.rules.proofs.Truth.{both, and, to≤, of≤, no≤, of>, to≡, of≡, is-no, to-within, of-within, cases, choice, either, all-parts, tried, under, true-and}
 use Rattle.rules.proofs.DigitLaws.{length-put, digits-put, val-put}
 use Rattle.rules.proofs.Lawful.{blanks, lawful, render-good, low-top, east, degrees, minutes, seconds}
 use Rattle.rules.proofs.SetLaws.{in-set, of-set, all-in, all-of, printed-in, printed-of}
-use Rattle.rules.proofs.FormLaws.{digits-lt, all-blank, number-forth, number-back, height-forth, height-back}
+use Rattle.rules.proofs.FormLaws.{all-blank, number-forth, number-back, height-forth, height-back}
 
 -- ---- digits are what their number puts
 digit-again : (a b : ℕ) → isDigit b ≡ true → ((a * 10 + (b - 48)) / 10 ≡ a) × (48 + (a * 10 + (b - 48)) % 10 ≡ b)

@@ -12,7 +12,7 @@ use Rattle.rules.specs.Items.{Value, gap, missing, num, text, label, Ite
 use Rattle.rules.specs.Fields.{Field, given, entriesOf, valueAt, numOf, isFormed, formed}
 use Rattle.rules.specs.Records.{Meaning, told, meant}
 use Rattle.rules.specs.Kinds.{kindOf, known, *25*}
-use Rattle.rules.specs.Layouts.{at, tied, station, instrument, antenna, initials, occupation, receiver, aerial, point, kept, layouts, layout}
+use Rattle.rules.specs.Layouts.{at, kept, layouts, layout}
 use Rattle.rules.specs.Members.{_∈_}
 use Rattle.rules.specs.References.{Family, families, isA, numberAt, defines, definerFrom, definer, tabulate, hasWord, wordAt, words, slotOf, mark, filled, tally, counts, sum}
 use Rattle.rules.specs.Chapter4.{chapter4}
@@ -46,7 +46,7 @@ hasNumberAt F c (f ∷ fs) = cond (f .from =? c) (isNumberOf F (f .item)) (hasNu
 
 -- the layouts have one at column 11 of the family's kind, and at the column at which a *25* names it
 families-ranged : all (λ F. hasNumberAt F 11 (getD layouts (F .kind) kept) & hasNumberAt F (F .named) (getD layouts *25* kept)) families ≡ true
-unfolding all hasNumberAt isNumberOf layouts occupation receiver aerial point at tied station instrument antenna initials _=?_ _&_
+unfolding all hasNumberAt isNumberOf layouts _=?_ _&_
 families-ranged = refl
 
 module _ (F : Family) where

@@ -1,7 +1,7 @@
 -- What tests that hold say, and their algebra.
 use mathlib.Core.Path.{_≡_, refl, sym, _∙_, ap}
 use mathlib.Core.Logic.{_⊎_, inl, inr}
-use mathlib.Core.Bool.{Bool, true, false, cond, _||_, false≢true}
+use mathlib.Core.Bool.{Bool, true, false, cond, _&&_, _||_, false≢true}
 use mathlib.Core.List.{List, [], _∷_, _++_}
 use Prim.Native.Nat.{ℕ, zero, suc, _≤_, _<_}
 use native.Mathlib.Omega.{arith}
@@ -74,6 +74,11 @@ of≢ {m} {n} h = ne-eqb m n h
 pub above-0 : (n : ℕ) → (n ≡ 0 → ⊥) → 1 ≤ n
 above-0 zero h = absurd (h refl)
 above-0 (suc n) h = omega arith
+
+-- the code's own connective
+pub both-true : (a b : Bool) → (a && b) ≡ true → (a ≡ true) × (b ≡ true)
+both-true true b h = (refl, h)
+both-true false b h = absurd (false≢true h)
 
 -- a choice of two tests
 pub or-cond : (a b : Bool) → (a || b) ≡ cond a true b
@@ -148,6 +153,11 @@ pub and-true : (b : Bool) → b & true ≡ b
 unfolding _&_
 and-true true = refl
 and-true false = refl
+
+pub and-false : (b : Bool) → b & false ≡ false
+unfolding _&_
+and-false true = refl
+and-false false = refl
 
 pub &-assoc : (a b c : Bool) → a & b & c ≡ a & (b & c)
 unfolding _&_

@@ -4,7 +4,7 @@ use mathlib.Core.List.{List, [], _∷_, _++_}
 use Prim.Native.Nat.{ℕ, _+_, _-_, _*_}
 use lib.ListN.{length, take, drop, replicate}
 use Rattle.rules.specs.Tests.{_&_, _≤?_, _=?_, within}
-use Rattle.rules.specs.Items.{Value, Item, valueOf, parts}
+use Rattle.rules.specs.Items.{Value, valueOf, parts}
 use Rattle.rules.specs.Fields.{Field, Verdict, ok, fault, _⨾_, check, isOk}
 use Rattle.rules.specs.Records.{Meaning, sequence, codeAt, readLine, meaning, judgeGiven, lineOf}
 use Rattle.rules.specs.Files.{Result, accept, refuse, isAccept, lineAt, begun, meanings, verdict, rewritten}

@@ -1,9 +1,9 @@
 -- 01, "Field tables" and "Fault numbers": fields in a row, their agreement, and the first fault from the left.
 use mathlib.Core.Bool.{Bool, true, false, cond, not}
 use mathlib.Core.List.{List, [], _∷_, _++_, map}
-use Prim.Native.Nat.{ℕ, zero, suc, _+_, _-_}
-use lib.ListN.{length, take, drop}
-use lib.IntN.{ℤ, pos, negsuc}
+use Prim.Native.Nat.{ℕ, _+_, _-_}
+use lib.ListN.{take, drop}
+use lib.IntN.{pos, negsuc}
 use Rattle.rules.specs.Tests.{_&_, _≤?_, _=?_, all}
 use Rattle.rules.specs.Characters.{isBlank}
 use Rattle.rules.specs.Items.{Value, gap, missing, num, text, label, Item, width, valueOf, fits, render, good, spot}

@@ -9,7 +9,7 @@ use lib.IntN.{ℤ, pos, negℤ}
 use Rattle.rules.specs.Members.{_∈_, _⊆_}
 use Rattle.rules.specs.Characters.{ascii, isPrintable, Set, letter, digit, space, printable, title, name, only, _or_}
 use Rattle.rules.specs.Digits.{val, put}
-use Rattle.rules.specs.Items.{Value, gap, missing, num, text, label, signed, Way, latitude, longitude, columns, top, low, plus, minusOf, each, orBlank, Item, blank, constant, number, height, angle, month, media, word}
+use Rattle.rules.specs.Items.{Value, gap, missing, num, text, label, signed, Way, columns, top, low, plus, minusOf, each, orBlank, Item, blank, constant, number, height, angle, month, media, word}
 use Rattle.rules.specs.Kinds.{*AA*, dataCodes}
 
 -- ---- 01, "Field tables": the members of each set of characters

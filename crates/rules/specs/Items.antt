@@ -1,7 +1,7 @@
 -- 01, "How a field is read": what can stand in a field, its value, and how the value is written.
 use mathlib.Core.Bool.{Bool, true, false, cond}
 use mathlib.Core.List.{List, [], _∷_, _++_}
-use Prim.Native.Nat.{ℕ, zero, suc, _+_, _-_, _*_, _/_, _%_, _^_}
+use Prim.Native.Nat.{ℕ, suc, _+_, _-_, _*_, _/_, _%_, _^_}
 use lib.ListN.{length, replicate, take, drop, getD}
 use lib.IntN.{ℤ, pos, negsuc, negℤ}
 use Rattle.rules.specs.Tests.{_&_, _≤?_, _=?_, within, all}

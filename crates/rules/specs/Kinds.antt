@@ -1,8 +1,8 @@
 -- 01, "What the shelf needs": the fourteen kinds of record, and their codes in columns 7-10.
-use mathlib.Core.Bool.{Bool, true, false, cond}
+use mathlib.Core.Bool.{Bool, cond}
 use mathlib.Core.List.{List, [], _∷_}
-use Prim.Native.Nat.{ℕ, zero, suc, _+_}
-use lib.ListN.{length, take, drop, getD}
+use Prim.Native.Nat.{ℕ, _+_}
+use lib.ListN.{length, getD}
 use Rattle.rules.specs.Tests.{_&_, _≤?_, _=?_}
 use Rattle.rules.specs.Characters.{isDigit, isLetter, letter, digit, _or_, member}
 use Rattle.rules.specs.Digits.{val}

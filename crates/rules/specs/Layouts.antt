@@ -1,5 +1,5 @@
 -- 01, "Field tables", and 001's tables of *27* *70* *72* as docs/LAYOUT.md takes them: columns 11-80 of each kind of record.
-use mathlib.Core.Bool.{Bool, true, false}
+use mathlib.Core.Bool.{true, false}
 use mathlib.Core.List.{List, [], _∷_}
 use Prim.Native.Nat.{ℕ}
 use lib.ListN.{getD}
@@ -9,49 +9,49 @@ use Rattle.rules.specs.Fields.{Bond, free, notBefore, goesWith, expected
 use Rattle.rules.specs.Kinds.{kindOf}
 
 -- a field by its first column
-unfoldable pub at : ℕ → Item → Field
+abbrev pub at : ℕ → Item → Field
 at c i = record { from = c; item = i; bond = free }
 
-unfoldable pub tied : ℕ → Item → Bond → Field
+abbrev pub tied : ℕ → Item → Bond → Field
 tied c i b = record { from = c; item = i; bond = b }
 
 -- ---- the kinds of field that several records share
-unfoldable pub station : Item
+abbrev pub station : Item
 station = number 4 1 9_999 false
 
-unfoldable pub instrument : Item
+abbrev pub instrument : Item
 instrument = number 3 1 999 false
 
-unfoldable pub antenna : Item
+abbrev pub antenna : Item
 antenna = number 3 1 999 false
 
-unfoldable pub initials : Item
+abbrev pub initials : Item
 initials = word 3 (each (letter or space))
 
-unfoldable pub state : Item
+abbrev pub state : Item
 state = word 2 (each letter)
 
-unfoldable pub anyText : ℕ → Item
+abbrev pub anyText : ℕ → Item
 anyText w = word w (each printable)
 
 -- a height of *86*, and the code beside it
-unfoldable pub metres : Item
+abbrev pub metres : Item
 metres = height 7 true
 
-unfoldable pub letterOrBlank : Item
+abbrev pub letterOrBlank : Item
 letterOrBlank = word 1 (each (letter or space))
 
 -- ---- the records
 -- 01, "Records kept": columns 11-80 of the job-code records and of *91* *92* *93* are kept as printable bytes
-unfoldable pub kept : List Field
+abbrev pub kept : List Field
 kept = at 11 (anyText 70) ∷ []
 
 -- *10* *11*
-unfoldable pub titled : List Field
+abbrev pub titled : List Field
 titled = at 11 (word 70 (each title)) ∷ []
 
 -- *12*
-unfoldable pub project : List Field
+abbrev pub project : List Field
 project =
     at 11 month ∷ tied 17 month (notBefore 11)
     ∷ at 23 initials ∷ at 26 (word 18 (each name))
@@ -59,39 +59,39 @@ project =
     ∷ at 65 (blank 11) ∷ at 76 (constant 52) ∷ at 77 state ∷ at 79 (blank 2) ∷ []
 
 -- *25*
-unfoldable pub occupation : List Field
+abbrev pub occupation : List Field
 occupation = at 11 station ∷ at 15 media ∷ at 25 initials ∷ at 28 instrument ∷ at 31 (blank 2) ∷ at 33 antenna ∷ at 36 (blank 45) ∷ []
 
 -- *26*
-unfoldable pub comment : List Field
+abbrev pub comment : List Field
 comment = at 11 (anyText 70) ∷ []
 
 -- *27*, 001: date YYMMDD, time HHMM, height of the antenna
-unfoldable pub measurement : List Field
+abbrev pub measurement : List Field
 measurement =
     tied 11 station expected ∷ at 15 (number 6 0 999_999 false) ∷ at 21 (number 4 0 9_999 false)
     ∷ at 25 (blank 31) ∷ at 56 (height 5 false) ∷ at 61 (blank 20) ∷ []
 
 -- *70*, 001: equipment code, manufacturer, model, serial number
-unfoldable pub receiver : List Field
+abbrev pub receiver : List Field
 receiver =
     tied 11 instrument expected ∷ at 14 (number 3 1 999 false) ∷ at 17 (blank 6) ∷ at 23 (anyText 18)
     ∷ at 41 (blank 22) ∷ at 63 (anyText 8) ∷ at 71 (anyText 10) ∷ []
 
 -- *72*, 001: antenna code, radome code, serial number
-unfoldable pub aerial : List Field
+abbrev pub aerial : List Field
 aerial =
     tied 11 antenna expected ∷ at 14 (blank 3) ∷ at 17 (anyText 16) ∷ at 33 (word 4 (each letter))
     ∷ at 37 (blank 8) ∷ at 45 (anyText 20) ∷ at 65 (blank 16) ∷ []
 
 -- *80*
-unfoldable pub point : List Field
+abbrev pub point : List Field
 point =
     at 11 station ∷ at 15 (anyText 30) ∷ at 45 (angle latitude) ∷ at 57 (angle longitude)
     ∷ at 70 (blank 7) ∷ at 77 state ∷ at 79 (blank 2) ∷ []
 
 -- *86*
-unfoldable pub heights : List Field
+abbrev pub heights : List Field
 heights =
     tied 11 station expected ∷ at 15 (blank 2)
     ∷ at 17 metres ∷ tied 24 letterOrBlank (goesWith 17) ∷ at 25 (word 2 (orBlank digit))

@@ -1,21 +1,17 @@
 -- Demands 1 and 2 as facts about check, from its promise alone.
-use mathlib.Core.Path.{_≡_, refl, sym, _∙_, ap, ap₂, subst}
-use mathlib.Core.Logic.{_↔_}
-use mathlib.Core.Bool.{Bool, true, false, cond, false≢true}
-use mathlib.Core.List.{List, [], _∷_, _++_}
-use Prim.Native.Nat.{ℕ, zero, suc, _+_, _≤_, _<_}
+use mathlib.Core.Path.{_≡_, refl, sym, _∙_, ap, subst}
+use mathlib.Core.Bool.{true, false, cond, false≢true}
+use mathlib.Core.List.{List, _++_}
+use Prim.Native.Nat.{ℕ, _+_, _≤_, _<_}
 use native.Mathlib.Omega.{arith}
 use lib.ListN.{length, take, drop, replicate, length-replicate}
 use lib.Seq.{take-at, drop-at}
 use Rattle.rules.specs.Tests.{_≤?_, _=?_}
-use Rattle.rules.specs.Records.{Meaning}
 use Rattle.rules.specs.Files.{Result, accept, refuse, isAccept, meanings, verdict, accepted}
 use Rattle.rules.specs.References.{words, counts}
-use Rattle.rules.specs.Faults.{FirstOf, HasFault, CallFaults}
+use Rattle.rules.specs.Faults.{FirstOf, CallFaults}
 use Rattle.rules.specs.Calls.{outcome, bigTable, answer, tableLeft, checkAnswer, checkTable}
 use Rattle.rules.specs.Chapter4.{chapter4}
-use Rattle.rules.specs.Conforms.{Conforms}
-use Rattle.rules.specs.Demands.{Tells}
 use Rattle.rules.proofs.Truth.{of≤, to≤, of>, no≤, of≢, cases}
 use Rattle.rules.proofs.ReferenceLaws.{length-words}
 use Rattle.rules.proofs.Bounds.{file-numbers}
@@ -28,11 +24,6 @@ use Rattle.walk.specs.Promise.{Promised, named, Refusing, Judging}
 -- 01, "Prove that two results allowed by one promise are equal"
 pub one-result : (f t : List ℕ) (v w : Checked) (u x : List ℕ) → Promised f t v u → Promised f t w x → (v ≡ w) × (u ≡ x)
 one-result f t v w u x p q = (p .answered ∙ sym (q .answered), p .left ∙ sym (q .left))
-
--- what the first 12,000 words become
-first-words : (b : Bool) (ms : List Meaning) → length (cond b (words ms) (replicate 12_000 0)) ≡ 12_000
-first-words true ms = length-words ms
-first-words false ms = length-replicate {A = ℕ} 12_000 0
 
 -- ---- what an answer tells, whatever the call
 module _ (f : List ℕ) (v : Checked) where

@@ -1,17 +1,16 @@
 -- The whole check: what the walk and the references leave together is what the rules say.
-use mathlib.Core.Path.{_≡_, refl, sym, _∙_, ap, ap₂, subst}
-use mathlib.Core.Bool.{true, false, false≢true, Bool, cond}
-use mathlib.Core.List.{List, _++_, [], _∷_}
-use Prim.Native.Nat.{ℕ, _+_, _-_, _≤_, _<_, zero, suc}
-use lib.ListN.{length, drop, take, replicate}
-use Rattle.rules.specs.Tests.{_=?_, _&_, _≤?_}
-use native.Mathlib.Omega.{arith}
+use mathlib.Core.Path.{_≡_, refl, sym, _∙_, ap}
+use mathlib.Core.Bool.{true, false}
+use mathlib.Core.List.{List, _++_}
+use Prim.Native.Nat.{ℕ, _+_, _≤_, _<_}
+use lib.ListN.{length, drop}
+use Rattle.rules.specs.Tests.{_=?_}
 use Rattle.rules.specs.Records.{Meaning}
 use Rattle.rules.specs.Files.{Result, accept, refuse, isAccept, andThen, lines, meanings, walk, refer, verdict, formedLines}
 use Rattle.rules.specs.References.{words}
 use Rattle.rules.specs.Calls.{outcome, bigTable, answer, tableLeft, checkAnswer, checkTable}
 use Rattle.rules.specs.Chapter4.{atStart, chapter4}
-use Rattle.rules.proofs.Truth.{both, of≤, of>, of≡, of≢, cases}
+use Rattle.rules.proofs.Truth.{both, of≤, of>, of≡, of≢}
 use Rattle.rules.proofs.FileLaws.{walk-splits, formed-meant, is-accept}
 use Rattle.rules.proofs.TableLaws.{filled-is-words}
 use Rattle.rules.proofs.Bounds.{zero-walks, zero-accepts}

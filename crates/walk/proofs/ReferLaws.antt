@@ -16,7 +16,7 @@ use Rattle.rules.specs.Members.{_∈_}
 use Rattle.rules.specs.References.{Family, stations, families, isA, numberAt, definer, asked, namedCheck, refChecks, words}
 use Rattle.rules.specs.Calls.{answer}
 use Rattle.rules.specs.Chapter4.{chapter4}
-use Rattle.rules.proofs.Truth.{both, to≤, of≤, of>, to≡, of≡, no≡, of≢, cases, above-0}
+use Rattle.rules.proofs.Truth.{both, of≤, of>, to≡, of≡, no≡, of≢, cases, above-0}
 use Rattle.rules.proofs.RecordLaws.{line-meant}
 use Rattle.rules.proofs.FileLaws.{lines-more, lines-none}
 use Rattle.rules.proofs.ReferenceLaws.{stations-in, word-in}
@@ -154,9 +154,6 @@ module _ (f t : List ℕ) (v : Checked) (given : Referable f t v) (n i : ℕ) (g
     fine : (i + 1 ≤? 99_999 & formedLine chapter4 (lineAt f i) ≡ true) × (formedLines chapter4 (i + 1 + 1) (linesFrom f (n - (i + 1)) (i + 1)) ≡ true)
     unfolding formedLines
     fine = both (rw (lines-more f n i h) at (g .form))
-
-    pub refer-few : i + 1 ≤ 99_999
-    refer-few = to≤ (both (fine .0) .0)
 
     module _ (l : List ℕ) (el : l ≡ lineAt f i) (k : ℕ) (ek : k ≡ kindOf (codeAt l)) (j : Judged) (ej : j ≡ judgedOf (refIn t (i + 1) k l)) where
       judged : j ≡ judgedOf (run (refChecks (meanings chapter4 f) (i + 1) (meaning chapter4 (lineAt f i))))

@@ -1,11 +1,11 @@
 -- Wrong checks that the promise does not allow: 01, "How tight the promises are" and "Slips we have seen".
 use mathlib.Core.Path.{_≡_, refl, sym, _∙_, ap}
-use mathlib.Core.Bool.{Bool, true, false}
-use mathlib.Core.List.{List, [], _∷_}
+use mathlib.Core.Bool.{true}
+use mathlib.Core.List.{List, []}
 use Prim.Native.Nat.{ℕ, _≤_}
 use native.Mathlib.Omega.{arith}
 use lib.ListN.{length, getD, replicate, length-replicate}
-use Rattle.rules.specs.Files.{accept, refuse, isAccept, meanings, verdict, accepted}
+use Rattle.rules.specs.Files.{refuse, isAccept, verdict, accepted}
 use Rattle.rules.specs.Kinds.{*86*}
 use Rattle.rules.specs.References.{counts}
 use Rattle.rules.specs.Chapter4.{chapter4}

@@ -15,7 +15,7 @@ use Rattle.rules.specs.Kinds.{kindOf, known}
 use Rattle.rules.specs.Layouts.{layouts, kept, layout}
 use Rattle.rules.specs.Order.{lastJob, goto}
 use Rattle.rules.specs.Chapter4.{mayStand, expectation, ordered, chapter4}
-use Rattle.rules.proofs.Truth.{and, of≤, of>, of≢, true-and, above-0}
+use Rattle.rules.proofs.Truth.{and, of≤, of>, of≢, true-and, above-0, both-true}
 use Rattle.rules.proofs.FieldLaws.{isOk-⨾, isOk-check}
 use Rattle.kinds.specs.declared.Judged.{Judged}
 use Rattle.kinds.specs.declared.Expect.{Expect}
@@ -24,7 +24,6 @@ use Rattle.kinds.proofs.ValueLaws.{good-is, bad-is}
 use Rattle.judging.proofs.RowLaws.{good-then, bad-then, ok-good}
 use Rattle.judging.proofs.LineLaws.{alone-long}
 use Rattle.quick.specs.Rest.{Fit}
-use Rattle.quick.proofs.ClassLaws.{both-true}
 use Rattle.walk.specs.declared.kept.Kept.{Kept}
 use Rattle.walk.specs.declared.records.Stepped.the-variants.{Next, Fault}
 use Rattle.walk.specs.Keeping.{pastOf, expectIn, foreign, movedOf}

@@ -14,7 +14,7 @@ use Rattle.rules.specs.Items.{Value, text, fits, render, number, media, angle, 
 use Rattle.rules.specs.Fields.{Verdict, ok, fault, check, _⨾_, isOk, anything, given, entriesOf, agrees, agreesWith, judgeEach, judge, isFormed, formed}
 use Rattle.rules.specs.Records.{sequence, told, ofKind, judgeGiven, meant, lineOf}
 use Rattle.rules.specs.Kinds.{dataCodes, kindFrom, starred, kindBetween, kindOf, known}
-use Rattle.rules.specs.Layouts.{at, anyText, kept, titled, project, occupation, comment, measurement, receiver, aerial, point, heights, layouts, layout}
+use Rattle.rules.specs.Layouts.{at, layouts, layout}
 use Rattle.rules.specs.Chapter4.{chapter4}
 use Rattle.rules.specs.Calls.{writeVerdict, writeOutput}
 use Rattle.rules.proofs.Truth.{both, and, of≤, to≡, of≡, of>, of≢, cases, is-no, not-both, to-within}
@@ -59,7 +59,7 @@ below-14 (R.Factor r) = lit≤ tt
 
 -- a value for each field
 one-each : (r : Record) (a b c : List ℕ) → length (valuesOf r a b c) ≡ length (layoutOf (kindNumber r))
-unfolding valuesOf kindNumber layoutOf layouts kept titled project occupation comment measurement receiver aerial point heights
+unfolding valuesOf kindNumber layoutOf layouts
 one-each (R.Job r) a b c = refl
 one-each (R.Title r) a b c = refl
 one-each (R.Continuation r) a b c = refl
@@ -105,7 +105,7 @@ unfolding _⨾_
 
 -- a record of one text
 pub judge-text : (s : Set) (t : List ℕ) → judge anything (entriesOf (at 11 (wordOf 70 s) ∷ []) (text t ∷ [])) ≡ check (fits (wordOf 70 s) (text t)) 9 11
-unfolding judge judgeEach entriesOf given agrees agreesWith at
+unfolding judge judgeEach entriesOf given agrees agreesWith
 judge-text s t = unfold check _⨾_ in ⨾-ok (check (fits (wordOf 70 s) (text t)) 9 11)
 
 -- ---- job codes
@@ -145,7 +145,7 @@ job-of-kind k a =
 
 job-same : (k : Job) (a : List ℕ) → ofKind chapter4 0 (meaningOf (R.Job k) a [] []) ≡ true
     → check (fits (wordOf 70 Set.Printable) (text a)) 9 11 ≡ judge anything (told chapter4 (meaningOf (R.Job k) a [] []))
-unfolding kindNumber layoutOf layouts kept anyText valuesOf wordOf setOf
+unfolding kindNumber layoutOf layouts valuesOf wordOf setOf
 job-same k a h = sym (rw (told-is (R.Job k) a [] [] (job-zero k a h)) (judge-text Set.Printable a))
 
 -- the text is judged only after a good code, whose layout is that of job codes
@@ -198,11 +198,11 @@ sequence-fits x e h = rw (← e) h
 -- the media identifier and the angles, which a field leaves alone if they do not fit
 module _ (a b c : List ℕ) {w : Record} (h : formed (entriesOf (layoutOf (kindNumber w)) (valuesOf w a b c)) ≡ true) where
   pub media-fitting : (o : Occupation) → w ≡ R.Occupation o → fits media (mediaValue (o .media)) ≡ true
-  unfolding kindNumber layoutOf layouts occupation valuesOf entriesOf formed all isFormed given at
+  unfolding kindNumber layoutOf layouts valuesOf entriesOf formed all isFormed given
   media-fitting o e = both (both (rw e at h) .1) .0
 
   pub angles-fitting : (p : Point) → w ≡ R.Point p → (fits (angle latitude) (num (p .latitude)) ≡ true) × (fits (angle longitude) (num (p .longitude)) ≡ true)
-  unfolding kindNumber layoutOf layouts point valuesOf entriesOf formed all isFormed given at
+  unfolding kindNumber layoutOf layouts valuesOf entriesOf formed all isFormed given
   angles-fitting p e = let t = both (both (rw e at h) .1) .1 in (both t .0, both (both t .1) .0)
 
 -- ---- the call

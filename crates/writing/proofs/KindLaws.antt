@@ -8,7 +8,7 @@ use Rattle.rules.specs.Tests.{_&_, _≤?_, _=?_, within}
 use Rattle.rules.specs.Characters.{isPrintable}
 use Rattle.rules.specs.Items.{Value, num, text, Item, number, height, angle, month, media, word, each, orBlank, latitude, longitude, onGap, fits}
 use Rattle.rules.specs.Fields.{Verdict, check, _⨾_, anything, given, entriesOf, valueAt, numOf, isMissing, sameTruth, meets, agreesWith, agrees, judgeEach, judge}
-use Rattle.rules.specs.Layouts.{at, tied, station, instrument, antenna, initials, state, anyText, metres, letterOrBlank, project, occupation, measurement, receiver, aerial, point, heights}
+use Rattle.rules.specs.Layouts.{station, instrument, antenna, initials, state, project, occupation, measurement, receiver, aerial, point, heights}
 use Rattle.columns.specs.declared.Set.{Set}
 use Rattle.columns.specs.declared.Height.{Height}
 use Rattle.columns.specs.Types.{setOf, heightValue, mediaValue, fourOf}
@@ -44,7 +44,7 @@ module _ (p : Project) (a b : List ℕ) where
       ∷ form (wordOf 2 Set.Letter) (text (twoText (p .state))) 77 ∷ []
 
   pub project-chain : judge anything (entriesOf project (valuesOf (R.Project p) a b [])) ≡ chain projectTests
-  unfolding judge judgeEach entriesOf given agrees agreesWith valueAt numOf check _⨾_ fits onGap isPrintable within _&_ _≤?_ _=?_ at tied initials state project valuesOf chain projectTests form wordOf setOf
+  unfolding judge judgeEach entriesOf given agrees agreesWith valueAt numOf check _⨾_ fits onGap isPrintable within _&_ _≤?_ _=?_ valuesOf chain projectTests form wordOf setOf
   project-chain = refl
 
 module _ (o : Occupation) where
@@ -55,7 +55,7 @@ module _ (o : Occupation) where
       ∷ form (number 3 1 999 false) (num (pos (o .antenna))) 33 ∷ []
 
   pub occupation-chain : judge anything (entriesOf occupation (valuesOf (R.Occupation o) [] [] [])) ≡ chain occupationTests
-  unfolding judge judgeEach entriesOf given agrees agreesWith check _⨾_ fits onGap at station instrument antenna initials occupation valuesOf chain occupationTests form wordOf setOf
+  unfolding judge judgeEach entriesOf given agrees agreesWith check _⨾_ fits onGap valuesOf chain occupationTests form wordOf setOf
   occupation-chain = refl
 
 module _ (m : Measurement) where
@@ -65,7 +65,7 @@ module _ (m : Measurement) where
       ∷ form (number 4 0 9_999 false) (num (pos (m .time))) 21 ∷ form (height 5 false) (num (m .height)) 56 ∷ []
 
   pub measurement-chain : judge anything (entriesOf measurement (valuesOf (R.Measurement m) [] [] [])) ≡ chain measurementTests
-  unfolding judge judgeEach entriesOf given agrees agreesWith meets check _⨾_ fits onGap at tied station measurement valuesOf chain measurementTests form
+  unfolding judge judgeEach entriesOf given agrees agreesWith meets check _⨾_ fits onGap valuesOf chain measurementTests form
   measurement-chain = refl
 
 module _ (i : Instrument) (a b c : List ℕ) where
@@ -75,7 +75,7 @@ module _ (i : Instrument) (a b c : List ℕ) where
       ∷ form (wordOf 18 Set.Printable) (text a) 23 ∷ form (wordOf 8 Set.Printable) (text b) 63 ∷ form (wordOf 10 Set.Printable) (text c) 71 ∷ []
 
   pub instrument-chain : judge anything (entriesOf receiver (valuesOf (R.Instrument i) a b c)) ≡ chain instrumentTests
-  unfolding judge judgeEach entriesOf given agrees agreesWith meets check _⨾_ fits onGap at tied instrument anyText receiver valuesOf chain instrumentTests form wordOf setOf
+  unfolding judge judgeEach entriesOf given agrees agreesWith meets check _⨾_ fits onGap valuesOf chain instrumentTests form wordOf setOf
   instrument-chain = refl
 
 module _ (n : Antenna) (a b : List ℕ) where
@@ -85,7 +85,7 @@ module _ (n : Antenna) (a b : List ℕ) where
       ∷ form (wordOf 4 Set.Letter) (text (fourOf (n .radome))) 33 ∷ form (wordOf 20 Set.Printable) (text b) 45 ∷ []
 
   pub antenna-chain : judge anything (entriesOf aerial (valuesOf (R.Antenna n) a b [])) ≡ chain antennaTests
-  unfolding judge judgeEach entriesOf given agrees agreesWith meets check _⨾_ fits onGap at tied antenna anyText aerial valuesOf chain antennaTests form wordOf setOf
+  unfolding judge judgeEach entriesOf given agrees agreesWith meets check _⨾_ fits onGap valuesOf chain antennaTests form wordOf setOf
   antenna-chain = refl
 
 module _ (p : Point) (a : List ℕ) where
@@ -96,7 +96,7 @@ module _ (p : Point) (a : List ℕ) where
       ∷ form (wordOf 2 Set.Letter) (text (twoText (p .state))) 77 ∷ []
 
   pub point-chain : judge anything (entriesOf point (valuesOf (R.Point p) a [] [])) ≡ chain pointTests
-  unfolding judge judgeEach entriesOf given agrees agreesWith check _⨾_ fits onGap at station anyText state point valuesOf chain pointTests form wordOf setOf
+  unfolding judge judgeEach entriesOf given agrees agreesWith check _⨾_ fits onGap valuesOf chain pointTests form wordOf setOf
   point-chain = refl
 
 module _ (h : Heights) (a b : List ℕ) where
@@ -120,15 +120,15 @@ module _ (h : Heights) (a b : List ℕ) where
       ∷ form (wordOf 24 Set.Printable) (text b) 57 ∷ []
 
   pub orthometric-chain : judgeOrthometric h a ≡ chain orthometricTests
-  unfolding judgeOrthometric heightEntries judgeEach entriesOf given agrees agreesWith meets valueAt check _⨾_ fits onGap _=?_ at tied station anyText metres letterOrBlank heights valuesOf chain orthometricTests form tie wordOf setOf
+  unfolding judgeOrthometric heightEntries judgeEach entriesOf given agrees agreesWith meets valueAt check _⨾_ fits onGap _=?_ valuesOf chain orthometricTests form tie wordOf setOf
   orthometric-chain = refl
 
   pub other-chain : judgeOthers h b ≡ chain otherTests
-  unfolding judgeOthers heightEntries judgeEach entriesOf given agrees agreesWith meets valueAt check _⨾_ fits onGap _=?_ at tied station anyText metres letterOrBlank heights valuesOf chain otherTests form tie wordOf setOf
+  unfolding judgeOthers heightEntries judgeEach entriesOf given agrees agreesWith meets valueAt check _⨾_ fits onGap _=?_ valuesOf chain otherTests form tie wordOf setOf
   other-chain = refl
 
   whole-chain : judge anything (entriesOf heights (valuesOf (R.Heights h) a b [])) ≡ chain (orthometricTests ++ otherTests)
-  unfolding judge judgeEach entriesOf given agrees agreesWith meets valueAt check _⨾_ fits onGap _=?_ at tied station anyText metres letterOrBlank heights valuesOf chain orthometricTests otherTests form tie wordOf setOf
+  unfolding judge judgeEach entriesOf given agrees agreesWith meets valueAt check _⨾_ fits onGap _=?_ valuesOf chain orthometricTests otherTests form tie wordOf setOf
   whole-chain = refl
 
   pub heights-judged : judge anything (entriesOf heights (valuesOf (R.Heights h) a b [])) ≡ (judgeOrthometric h a ⨾ judgeOthers h b)

@@ -13,7 +13,7 @@ use Rattle.rules.specs.Tests.{_&_, _≤?_, _=?_, within, all}
 use Rattle.rules.specs.Characters.{isDigit, isBlank}
 use Rattle.rules.specs.Digits.{val, put}
 use Rattle.rules.specs.Items.{num, Way, latitude, longitude, Item, blank, constant, number, height, angle, month, media, word, onGap, onNumber, onText, onLabel, columns, plus, minusOf, low, top, minus, numForm, heightForm, signed, angleValue, angleOf, dms, dmsForm, width, shape, valueOf, fits, render, good}
-use Rattle.rules.proofs.Truth.{all-parts, both, and, to≤, of≤, of>, to≡, of≡, of≢, no≤, to-within, cases}
+use Rattle.rules.proofs.Truth.{all-parts, both, and, to≤, of≤, of>, to≡, of≡, of≢, no≤, to-within, cases, both-true}
 use Rattle.rules.proofs.Lawful.{good-fits, digits-no-minus}
 use Rattle.rules.proofs.FileLaws.{length-take-most}
 use Rattle.columns.proofs.Loops.{suc-less-one}
@@ -166,10 +166,6 @@ not-is m n h e = false≢true (ap not (sym (eq-eqb m n e)) ∙ h)
 value-is : (bs : List ℕ) → length bs ≤ 16 → valueIn bs ≡ val 0 bs
 value-is bs h = rw (of≤ h)
 
-two : (a b : Bool) → (a && b) ≡ true → (a ≡ true) × (b ≡ true)
-two true b h = (refl, h)
-two false b h = absurd (false≢true h)
-
 -- ---- the sign of a value
 module _ (x : List ℕ) (f g : ℕ → List ℕ) where
   below-zero : (t : Bool) (v : ℕ) → t ≡ true → (v ≡ 0 → ⊥) → onNumber [] x f g (num (signed t v)) ≡ g v
@@ -220,7 +216,7 @@ module _ (may : Bool) (bs : List ℕ) where
       let x : List ℕ = replicate (length bs) 32 in
       cases (minus bs && not (eqb (valueIn bs) 0))
       (λ t.
-      let m = two (minus bs) (not (eqb (valueIn bs) 0)) t in
+      let m = both-true (minus bs) (not (eqb (valueIn bs) 0)) t in
       anew-below bs t ∙ minus-laid bs f (m .0)
       ∙ sym (height-is n ∙ below-zero x (put (length bs)) (λ k. 45 ∷ put (length bs - 1) k) (minus bs) (val 0 bs) (m .0) (λ z. not-is (valueIn bs) 0 (m .1) (e ∙ z))))
       (λ t.
@@ -420,7 +416,7 @@ module _ (way : Way) (bs : List ℕ) (g : good (angle way) bs ≡ true) where
       let ds = take (columns way) bs in
       let v = val 0 ds in
       let form : dmsForm v ≡ true = formed-digits way bs g in
-      let t = two (not (eqb (valueIn ds) 0)) (not (eqb (valueIn ds) 180_000_000_000)) s in
+      let t = both-true (not (eqb (valueIn ds) 0)) (not (eqb (valueIn ds) 180_000_000_000)) s in
       let le : angleOf v ≤? low way ≡ true = side way v (getD bs (columns way) 0) form (angle-fits way bs g) (λ z. not-is (valueIn ds) 180_000_000_000 (t .1) (digits-value ∙ z)) in
       south-west way bs (angleOf v) e refl le (λ z. not-is (valueIn ds) 0 (t .0) (digits-value ∙ nought v z)) ∙ letter-back way bs g (minusOf way) e
 

@@ -14,7 +14,7 @@ use kinds::Two;
 ghost use mathlib.Core.Path.{_≡_};
 ghost use mathlib.Core.Bool.{true};
 ghost use mathlib.Core.List.{_∷_, []};
-ghost use lib.ListN.{length, replicate};
+ghost use lib.ListN.{replicate};
 ghost use Rattle.rules.specs.Digits.{put};
 ghost use Rattle.rules.specs.Items.{fits, render, width, number, angle, media, num};
 ghost use Rattle.columns.specs.Types.{wayOf, countValue, mediaValue, fourOf};

@@ -30,10 +30,9 @@ use kinds::Project;
 use kinds::Record;
 use kinds::Sequence;
 use kinds::Title;
-use kinds::Two;
 ghost use mathlib.Core.Path.{_≡_};
 ghost use mathlib.Core.Bool.{true};
-ghost use mathlib.Core.List.{_∷_, []};
+ghost use mathlib.Core.List.{[]};
 ghost use lib.ListN.{length, take, drop};
 ghost use Rattle.rules.specs.Items.{fits, angle, latitude, longitude, media, num};
 ghost use Rattle.rules.specs.Fields.{isOk, entriesOf, formed};
@@ -43,7 +42,7 @@ ghost use Rattle.rules.specs.Chapter4.{chapter4};
 ghost use Rattle.columns.specs.Types.{mediaValue, fourOf};
 ghost use Rattle.kinds.specs.Values.{sequenceValue, kindNumber, codeOf, meaningOf, valuesOf};
 ghost use Rattle.kinds.specs.declared.Record.the-variants as R;
-ghost use Rattle.writing.specs.Laying.{lay, layFields, layoutOf};
+ghost use Rattle.writing.specs.Laying.{layFields, layoutOf};
 
 fn lay_project(line: &mut [u8], p: Project, a: &[u8], b: &[u8])
     ensures { λ _. ⌜ now (line .exit) ≡ layFields project (valuesOf (R.Project p) (now (a .entry)) (now (b .entry)) []) (now (line .entry)) ⌝ }

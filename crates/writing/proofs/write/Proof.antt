@@ -1,3 +1,4 @@
+-- Room, then the judge, then the line.
 use borrow.Author.Needs.{needs}
 use lib.Seq.{length-take-le}
 use Rattle.writing.proofs.GivenLaws.{judged-good, write-short, write-bad, write-good}

@@ -1,11 +1,10 @@
 -- The promises one after another. Assumes nothing.
-use mathlib.Core.Path.{_≡_, refl, sym, ap, _∙_}
+use mathlib.Core.Path.{ap, _∙_}
 use borrow.Author.Needs.{needs}
 use mir.Syntax.{w64}
 use mir.ValLaws.{toZ-ofZ}
-use Rattle.columns.specs.Types.{wayOf}
 use Rattle.columns.specs.Leaves.{splitLongOf}
-use Rattle.columns.proofs.AngleLaws.{Agrees, agrees, angle-fits-is}
+use Rattle.columns.proofs.AngleLaws.{agrees, angle-fits-is}
 use Rattle.columns.proofs.angles.angle_fits.Statement.{statement}
 use Rattle.columns.proofs.angles.angle_fits.Tie as tie
 

@@ -1,5 +1,5 @@
 -- The formula is that of the definition. Assumes nothing.
-use mathlib.Core.Path.{_≡_, refl, sym, ap, _∙_}
+use mathlib.Core.Path.{refl}
 use borrow.Author.Needs.{needs}
 use Rattle.rules.specs.Items.{angleOf}
 use Rattle.columns.proofs.angles.angle_of.Statement.{statement}

@@ -1,10 +1,7 @@
 -- By whether the digits are good. Assumes nothing.
-use mathlib.Core.Path.{_≡_, refl, sym, ap, _∙_}
+use mathlib.Core.Path.{_≡_, ap, _∙_}
 use borrow.Author.Needs.{needs}
-use native.Mathlib.Omega.{arith}
 use lib.ListN.{length, take}
-use mathlib.Core.List.{List}
-use Prim.Native.Nat.{ℕ}
 use Rattle.rules.specs.Tests.{_&_, _≤?_}
 use Rattle.columns.specs.Types.{wayOf}
 use Rattle.columns.specs.Leaves.{digitsUpTo}

@@ -1,5 +1,5 @@
 -- The tests are those of the definition. Assumes nothing.
-use mathlib.Core.Path.{_≡_, refl, sym, ap, _∙_}
+use mathlib.Core.Path.{sym}
 use borrow.Author.Needs.{needs}
 use Rattle.rules.specs.Tests.{_&_}
 use Rattle.rules.proofs.Truth.{of≤, of>}

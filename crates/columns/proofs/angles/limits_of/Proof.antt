@@ -1,5 +1,5 @@
 -- By cases. Assumes nothing.
-use mathlib.Core.Path.{_≡_, refl, sym, ap, _∙_}
+use mathlib.Core.Path.{sym, ap}
 use borrow.Author.Needs.{needs}
 use Rattle.columns.specs.Leaves.{limitsOf}
 use Rattle.columns.proofs.angles.limits_of.Statement.{statement}

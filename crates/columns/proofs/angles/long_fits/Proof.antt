@@ -1,5 +1,5 @@
 -- By the sign. Assumes nothing.
-use mathlib.Core.Path.{_≡_, refl, sym, ap, _∙_}
+use mathlib.Core.Path.{sym, ap}
 use borrow.Author.Needs.{needs}
 use Rattle.rules.specs.Tests.{_≤?_}
 use Rattle.columns.specs.Leaves.{longFits}

@@ -1,5 +1,5 @@
 -- Too wide or narrow, unfit, or written with the letter of its sign. Assumes nothing.
-use mathlib.Core.Path.{_≡_, refl, sym, ap, _∙_}
+use mathlib.Core.Path.{_≡_, sym, ap, _∙_}
 use borrow.Author.Needs.{needs}
 use native.Mathlib.Omega.{arith}
 use mathlib.Core.Bool.{true}
@@ -10,7 +10,7 @@ use mir.Syntax.{w64}
 use mir.ValLaws.{toZ-ofZ}
 use borrow.Author.Tests.{not-true, not-false}
 use Rattle.rules.specs.Digits.{put}
-use Rattle.rules.specs.Items.{angle, num, fits, dms, plus, minusOf, columns}
+use Rattle.rules.specs.Items.{angle, num, fits, dms, plus, columns}
 use Rattle.columns.specs.Types.{wayOf}
 use Rattle.columns.specs.Leaves.{splitLongOf}
 use Rattle.columns.proofs.WriteLaws.{kept-wide, kept-unfit, now-written}

@@ -1,7 +1,5 @@
 -- The digits fill all columns but the last. Assumes nothing.
-use mathlib.Core.Path.{_≡_, refl, sym, ap, _∙_}
 use borrow.Author.Needs.{needs}
-use native.Mathlib.Omega.{arith}
 use Rattle.rules.specs.Items.{dms}
 use Rattle.columns.proofs.AngleLaws.{size-put}
 use Rattle.columns.proofs.angles.put_size.Statement.{statement}

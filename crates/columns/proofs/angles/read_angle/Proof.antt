@@ -1,9 +1,8 @@
 -- The promises one after another; no angle of 64 bits leaves its type. Assumes nothing.
-use mathlib.Core.Path.{_≡_, refl, sym, ap, _∙_}
+use mathlib.Core.Path.{ap, _∙_}
 use borrow.Author.Needs.{needs}
-use native.Mathlib.Omega.{arith}
 use mathlib.Core.Bool.{cond}
-use lib.ListN.{length, take}
+use lib.ListN.{length}
 use mir.Syntax.{w64}
 use mir.ValLaws.{toZ-ofZ}
 use Rattle.rules.specs.Tests.{_≤?_}

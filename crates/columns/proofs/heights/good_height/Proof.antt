@@ -1,5 +1,4 @@
 -- What has the form fits its width, and the last column tells a blank one. Assumes nothing.
-use mathlib.Core.Path.{_≡_, refl, sym, ap, _∙_}
 use borrow.Author.Needs.{needs}
 use Rattle.columns.proofs.NumberLaws.{height-good}
 use Rattle.columns.proofs.heights.good_height.Statement.{statement}

@@ -1,9 +1,9 @@
 -- The invariant: found already, or nothing but blanks so far and still to be found. Assumes nothing.
-use mathlib.Core.Path.{_≡_, refl, sym, ap, _∙_}
+use mathlib.Core.Path.{_≡_, refl, sym, _∙_}
 use borrow.Author.Needs.{needs}
 use native.Mathlib.Omega.{arith}
 use Prim.Native.Nat.{_≤_, _-_}
-use lib.ListN.{length, drop, getD}
+use lib.ListN.{length, drop}
 use mathlib.Core.Bool.{_&&_, _||_}
 use Rattle.rules.specs.Items.{minus}
 use Rattle.columns.proofs.Loops.{minus-turn, minus-end}

@@ -1,5 +1,4 @@
 -- By the width and the sign. Assumes nothing.
-use mathlib.Core.Path.{_≡_, refl, sym, ap, _∙_}
 use borrow.Author.Needs.{needs}
 use Rattle.columns.proofs.ValueLaws.{split-none, split-plus, split-minus}
 use Rattle.columns.proofs.heights.split_fits.Statement.{statement}

@@ -1,5 +1,4 @@
 -- The tests are those of the definition. Assumes nothing.
-use mathlib.Core.Path.{_≡_, refl, sym, ap, _∙_}
 use Rattle.columns.proofs.LabelLaws.{four-is}
 use Rattle.columns.proofs.labels.all_four.Statement.{statement}
 use Rattle.columns.proofs.labels.all_four.Tie as tie

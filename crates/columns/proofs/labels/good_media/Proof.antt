@@ -1,5 +1,4 @@
 -- In ten columns what is read is the value. Assumes nothing.
-use mathlib.Core.Path.{_≡_, refl, sym, ap, _∙_}
 use borrow.Author.Needs.{needs}
 use Rattle.columns.proofs.LabelLaws.{media-wide, media-good}
 use Rattle.columns.proofs.labels.good_media.Statement.{statement}

@@ -1,5 +1,4 @@
 -- The tests are those of the definition. Assumes nothing.
-use mathlib.Core.Path.{_≡_, refl, sym, ap, _∙_}
 use borrow.Author.Needs.{needs}
 use Rattle.columns.proofs.LabelLaws.{media-is}
 use Rattle.columns.proofs.labels.media_fits.Statement.{statement}

@@ -1,5 +1,4 @@
 -- By cases. Assumes nothing.
-use mathlib.Core.Path.{_≡_, refl, sym, ap, _∙_}
 use borrow.Author.Needs.{needs}
 use Rattle.columns.proofs.ValueLaws.{count-missing, count-is}
 use Rattle.columns.proofs.numbers.count_fits.Statement.{statement}

@@ -1,5 +1,4 @@
 -- In six columns what is read is the value. Assumes nothing.
-use mathlib.Core.Path.{_≡_, refl, sym, ap, _∙_}
 use borrow.Author.Needs.{needs}
 use Rattle.columns.proofs.ValueLaws.{month-good}
 use Rattle.columns.proofs.numbers.good_month.Statement.{statement}

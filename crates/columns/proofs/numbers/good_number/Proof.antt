@@ -1,5 +1,5 @@
 -- In a field that has its form the last column tells a blank one, and the value fits the width. Assumes nothing.
-use mathlib.Core.Path.{_≡_, refl, sym, ap, _∙_}
+use mathlib.Core.Path.{sym}
 use borrow.Author.Needs.{needs}
 use Rattle.rules.specs.Tests.{_&_}
 use Rattle.rules.proofs.Truth.{of≤, of>}

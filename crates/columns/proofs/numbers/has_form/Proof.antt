@@ -1,9 +1,9 @@
 -- The invariant: the form from here on, after the column before. Assumes nothing.
-use mathlib.Core.Path.{_≡_, refl, sym, ap, _∙_}
+use mathlib.Core.Path.{_≡_, refl, sym, _∙_}
 use borrow.Author.Needs.{needs}
 use native.Mathlib.Omega.{arith}
 use Prim.Native.Nat.{_≤_, _-_}
-use lib.ListN.{length, drop, getD}
+use lib.ListN.{length, drop}
 use mathlib.Core.Bool.{_&&_}
 use Rattle.columns.specs.Leaves.{formed}
 use Rattle.columns.proofs.Loops.{formed-turn, formed-end}

@@ -1,5 +1,4 @@
 -- By whether there is a column. Assumes nothing.
-use mathlib.Core.Path.{_≡_, refl, sym, ap, _∙_}
 use borrow.Author.Needs.{needs}
 use Rattle.columns.proofs.PartLaws.{last-none, last-some}
 use Rattle.columns.proofs.numbers.last_of.Statement.{statement}

@@ -1,5 +1,4 @@
 -- The tests are those of the definition. Assumes nothing.
-use mathlib.Core.Path.{_≡_, refl, sym, ap, _∙_}
 use Rattle.columns.proofs.LabelLaws.{month-is}
 use Rattle.columns.proofs.numbers.month_fits.Statement.{statement}
 use Rattle.columns.proofs.numbers.month_fits.Tie as tie

@@ -1,5 +1,4 @@
 -- By cases. Assumes nothing.
-use mathlib.Core.Path.{_≡_, refl, sym, ap, _∙_}
 use borrow.Author.Needs.{needs}
 use lib.ListN.{length}
 use Rattle.columns.proofs.WriteLaws.{count-blanks, count-digits}

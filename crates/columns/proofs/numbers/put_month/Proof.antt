@@ -1,5 +1,5 @@
 -- Too wide or narrow, unfit, or written. Assumes nothing.
-use mathlib.Core.Path.{_≡_, refl, sym, ap, _∙_}
+use mathlib.Core.Path.{sym, _∙_}
 use borrow.Author.Needs.{needs}
 use lib.IntN.{pos}
 use borrow.Author.Tests.{not-true, not-false}

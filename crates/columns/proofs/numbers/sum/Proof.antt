@@ -1,8 +1,8 @@
 -- The invariant: what is read on from here is what was to be read, and the sum so far is what i bytes can make. Assumes nothing.
-use mathlib.Core.Path.{_≡_, refl, sym, ap, _∙_}
+use mathlib.Core.Path.{_≡_, refl, sym, _∙_}
 use borrow.Author.Needs.{needs}
 use native.Mathlib.Omega.{arith}
-use lib.ListN.{length, drop, getD}
+use lib.ListN.{length, drop}
 use Prim.Native.Nat.{_≤_, _+_, _-_, _*_, _^_}
 use Rattle.rules.specs.Digits.{val}
 use Rattle.columns.proofs.Loops.{val-turn, val-end, pow-next, pow-most}

@@ -1,5 +1,5 @@
 -- By the length. Assumes nothing.
-use mathlib.Core.Path.{_≡_, refl, sym, ap, _∙_}
+use mathlib.Core.Path.{sym, _∙_}
 use borrow.Author.Needs.{needs}
 use Rattle.rules.proofs.Truth.{of≤, of>}
 use Rattle.columns.proofs.numbers.value_of.Statement.{statement}

@@ -1,5 +1,5 @@
 -- Past the end the default is looked up. Assumes nothing.
-use mathlib.Core.Path.{_≡_, refl, sym, ap, _∙_}
+use mathlib.Core.Path.{sym}
 use borrow.Author.Needs.{needs}
 use lib.ListN.{List·getD-eq-default}
 use Rattle.columns.proofs.parts.byte_at.Statement.{statement}

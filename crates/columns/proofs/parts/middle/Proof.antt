@@ -1,5 +1,4 @@
 -- Nothing, the rest, or the whole of what is asked for. Assumes nothing.
-use mathlib.Core.Path.{_≡_, refl, sym, ap, _∙_}
 use borrow.Author.Needs.{needs}
 use Rattle.columns.proofs.PartLaws.{cut-none, cut-rest, cut-whole}
 use Rattle.columns.proofs.parts.middle.Statement.{statement}

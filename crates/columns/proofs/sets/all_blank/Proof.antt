@@ -1,5 +1,4 @@
 -- A blank is the character 32. Assumes nothing.
-use mathlib.Core.Path.{_≡_, refl, sym, ap, _∙_}
 use borrow.Author.Needs.{needs}
 use Rattle.rules.specs.Characters.{isBlank}
 use Rattle.columns.proofs.sets.all_blank.Statement.{statement}

@@ -1,5 +1,5 @@
 -- The width is the slice's own, and a blank field has no value to judge. Assumes nothing.
-use mathlib.Core.Path.{_≡_, refl, sym, ap, _∙_}
+use mathlib.Core.Path.{_∙_}
 use borrow.Author.Needs.{needs}
 use Rattle.columns.proofs.ItemLaws.{good-blank}
 use Rattle.columns.proofs.sets.good_blank.Statement.{statement}

@@ -1,5 +1,5 @@
 -- The ranges of the set are the set. Assumes nothing.
-use mathlib.Core.Path.{_≡_, refl, sym, ap, _∙_}
+use mathlib.Core.Path.{ap, _∙_}
 use borrow.Author.Needs.{needs}
 use Rattle.rules.specs.Tests.{all}
 use Rattle.columns.specs.Leaves.{inside}

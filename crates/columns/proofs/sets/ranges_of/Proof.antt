@@ -1,5 +1,5 @@
 -- Set by set. Assumes nothing.
-use mathlib.Core.Path.{_≡_, sym, ap, _∙_}
+use mathlib.Core.Path.{sym, ap, _∙_}
 use borrow.Author.Needs.{needs}
 use Rattle.columns.specs.Leaves.{rangesOf}
 use Rattle.columns.proofs.sets.ranges_of.Statement.{statement}

@@ -1,5 +1,5 @@
 -- Below zero and not, by the laws of Signed for 32 bits. Assumes nothing.
-use mathlib.Core.Path.{_≡_, refl, sym, ap, _∙_}
+use mathlib.Core.Path.{sym, ap, _∙_}
 use native.Mathlib.Omega.{arith}
 use Prim.Native.Nat.{_+_}
 use native.Mathlib.Numerals.{add-one}

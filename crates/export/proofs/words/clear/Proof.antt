@@ -1,3 +1,4 @@
+-- The invariant: zeros before i, and from i on what was lent.
 use borrow.Author.Needs.{needs}
 use mathlib.Core.Path.{_≡_}
 use mathlib.Core.List.{_++_}
@@ -7,8 +8,6 @@ use lib.IntN.{pos}
 use Rattle.export.proofs.WordLaws.{clear-more, clear-done}
 use Rattle.export.proofs.words.clear.Statement.{statement}
 use Rattle.export.proofs.words.clear.Tie as tie
-use Rattle.export.proofs.words.clear.Reads as reads
-use Rattle.export.proofs.words.clear.Lts as lts
 
 abbrev Inv-loop : tie.InvT-loop
 Inv-loop out₀ i₀ out i = (length out ≡ length out₀) × (out ≡ replicate i (pos 0) ++ drop i out₀) × (i ≤ 32)
@@ -16,35 +15,9 @@ Inv-loop out₀ i₀ out i = (length out ≡ length out₀) × (out ≡ replicat
 abbrev μ-loop : tie.MeasureT-loop
 μ-loop out₀ i₀ out i = 32 - i
 
--- src/words.rt:20:5
-loop-holds : tie.Need-loop-holds Inv-loop μ-loop
-loop-holds c = search needs
-
--- src/words.rt:21:9
-mul-out : tie.Need-mul-out Inv-loop μ-loop
-mul-out c = search needs
-
--- src/words.rt:21:9
-slice-set-of-out : tie.Need-slice-set-of-out Inv-loop μ-loop
-slice-set-of-out c = search needs
-
--- src/words.rt:22:9
-add-i : tie.Need-add-i Inv-loop μ-loop
-add-i c = search needs
-
--- src/words.rt:20:5
-loop-less : tie.Need-loop-less Inv-loop μ-loop
-loop-less c = search needs
-
--- src/words.rt:20:5
 loop-again : tie.Need-loop-again Inv-loop μ-loop
 loop-again c = search (clear-more, needs)
 
--- src/words.rt:15:1
-same-length : tie.Need-same-length Inv-loop μ-loop
-same-length c = search needs
-
--- src/words.rt:15:1
 returns : tie.Need-returns Inv-loop μ-loop
 returns c = search (clear-done, needs)
 
@@ -54,11 +27,11 @@ clear-spec =
     (tie.spec
     Inv-loop
     μ-loop
-    loop-holds
-    mul-out
-    slice-set-of-out
-    add-i
-    loop-less
+    (λ c. search needs)
+    (λ c. search needs)
+    (λ c. search needs)
+    (λ c. search needs)
+    (λ c. search needs)
     loop-again
-    same-length
+    (λ c. search needs)
     returns)

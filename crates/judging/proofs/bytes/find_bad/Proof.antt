@@ -1,3 +1,4 @@
+-- The invariant: the columns before i are printable, so that the lowest fault is that of the columns from i on.
 use borrow.Author.Needs.{needs}
 use mathlib.Core.Path.{_≡_, refl}
 use Prim.Native.Nat.{_-_}

@@ -1,3 +1,4 @@
+-- Two digits make a number below 100.
 use borrow.Author.Needs.{needs}
 use Rattle.judging.proofs.codes.data_kind.Statement.{statement}
 use Rattle.judging.proofs.codes.data_kind.Tie as tie

@@ -1,4 +1,3 @@
-use borrow.Author.Needs.{needs}
 use Rattle.judging.proofs.codes.is_data.Statement.{statement}
 use Rattle.judging.proofs.codes.is_data.Tie as tie
 use Rattle.judging.proofs.CodeLaws.{data-is}

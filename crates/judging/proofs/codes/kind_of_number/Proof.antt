@@ -1,3 +1,4 @@
+-- One case for each code, and one for none of them.
 use borrow.Author.Needs.{needs}
 use Rattle.rules.specs.Tests.{_=?_}
 use Rattle.rules.specs.Kinds.{dataCodes, kindFrom}

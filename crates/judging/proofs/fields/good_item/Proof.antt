@@ -1,3 +1,4 @@
+-- One arm for each item, by the promise of what it calls.
 use borrow.Author.Needs.{needs}
 use Rattle.kinds.specs.declared.tables.Item.the-variants as I
 use Rattle.judging.proofs.FieldLaws.{stands-narrow, sized-number}

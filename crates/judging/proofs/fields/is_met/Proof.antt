@@ -1,5 +1,4 @@
 use borrow.Author.Needs.{needs}
-use mathlib.Core.Path.{_≡_, sym, _∙_, ap}
 use Rattle.judging.proofs.FieldLaws.{met-any, met-same, met-above}
 use Rattle.judging.proofs.fields.is_met.Statement.{statement}
 use Rattle.judging.proofs.fields.is_met.Tie as tie

@@ -1,5 +1,5 @@
+-- What a row asks is a computed test of the table.
 use borrow.Author.Needs.{needs}
-use mathlib.Core.Path.{_≡_, sym, _∙_}
 use Rattle.judging.proofs.RowLaws.{at-requires, at-is}
 use Rattle.judging.proofs.fields.judge_at.Statement.{statement}
 use Rattle.judging.proofs.fields.judge_at.Tie as tie

@@ -1,5 +1,5 @@
+-- The invariant: the fields before row i are good, so that the first fault is that of the rows from i on.
 use borrow.Author.Needs.{needs}
-use native.Mathlib.Omega.{arith}
 use Prim.Native.Nat.{_-_}
 use Rattle.kinds.specs.Values.{expectOf}
 use Rattle.judging.proofs.RowLaws.{Walked, walk-from, below, walk-stop, walk-on, walk-done}

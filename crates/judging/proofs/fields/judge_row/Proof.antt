@@ -1,3 +1,4 @@
+-- The part as the code cuts it is the field's columns; then 9 before 10.
 use borrow.Author.Needs.{needs}
 use native.Mathlib.Omega.{arith}
 use Rattle.kinds.specs.Values.{expectOf}

@@ -1,4 +1,3 @@
-use borrow.Author.Needs.{needs}
 use Rattle.judging.proofs.FieldLaws.{truth-is}
 use Rattle.judging.proofs.fields.same_truth.Statement.{statement}
 use Rattle.judging.proofs.fields.same_truth.Tie as tie

@@ -1,3 +1,4 @@
+-- One arm for each item, by the promise of what it calls.
 use borrow.Author.Needs.{needs}
 use Rattle.rules.specs.Items.{spot}
 use Rattle.judging.proofs.fields.spot_item.Statement.{statement}

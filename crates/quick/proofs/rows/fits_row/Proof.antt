@@ -1,3 +1,4 @@
+-- The invariant: where nothing failed so far, the columns of every step so far are of their class.
 use mathlib.Core.Path.{_≡_}
 use mathlib.Core.Bool.{true}
 use Prim.Native.Nat.{ℕ, _-_, _≤_, _<_}

@@ -1,3 +1,4 @@
+-- The invariant: where nothing failed so far, the columns of every step so far are printable, and those of the first sixteen of their class.
 use mathlib.Core.Path.{_≡_}
 use mathlib.Core.Bool.{true, _&&_}
 use Prim.Native.Nat.{ℕ, _-_, _≤_, _<_}

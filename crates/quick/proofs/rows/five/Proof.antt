@@ -1,3 +1,4 @@
+-- The five columns of a step, as the definition has them.
 use Rattle.quick.specs.Rows.{fiveAt}
 use borrow.Author.Needs.{needs}
 use Rattle.quick.proofs.rows.five.Statement.{statement}

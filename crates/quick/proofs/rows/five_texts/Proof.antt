@@ -1,3 +1,4 @@
+-- The five columns of a step, as the definition has them.
 use Rattle.quick.specs.Rows.{textAt, fiveTexts}
 use borrow.Author.Needs.{needs}
 use Rattle.quick.proofs.rows.five_texts.Statement.{statement}

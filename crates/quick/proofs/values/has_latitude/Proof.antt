@@ -1,3 +1,4 @@
+-- The test as the definition has it; the zeros behind by their own.
 use Rattle.quick.specs.Rest.{latitudeRest}
 use borrow.Author.Needs.{needs}
 use Rattle.quick.proofs.values.has_latitude.Statement.{statement}

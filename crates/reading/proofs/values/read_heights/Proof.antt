@@ -1,57 +1,9 @@
+-- Each value from its own columns; a signed one comes back from its word.
 use borrow.Author.Needs.{needs}
 use Rattle.reading.proofs.ValueLaws.{heights-given}
 use Rattle.reading.proofs.values.read_heights.Statement.{statement}
 use Rattle.reading.proofs.values.read_heights.Tie as tie
 
--- src/values.rt:190:9
-number-in-requires : tie.Need-number-in-requires
-number-in-requires c κs = search needs
-
--- src/values.rt:191:9
-height-in-requires : tie.Need-height-in-requires
-height-in-requires c κs = search needs
-
--- src/values.rt:192:9
-char-in-requires : tie.Need-char-in-requires
-char-in-requires c κs = search needs
-
--- src/values.rt:193:9
-two-in-requires : tie.Need-two-in-requires
-two-in-requires c κs = search needs
-
--- src/values.rt:194:9
-char-in-requires-2 : tie.Need-char-in-requires-2
-char-in-requires-2 c κs = search needs
-
--- src/values.rt:195:9
-two-in-requires-2 : tie.Need-two-in-requires-2
-two-in-requires-2 c κs = search needs
-
--- src/values.rt:196:9
-height-in-requires-2 : tie.Need-height-in-requires-2
-height-in-requires-2 c κs = search needs
-
--- src/values.rt:197:9
-char-in-requires-3 : tie.Need-char-in-requires-3
-char-in-requires-3 c κs = search needs
-
--- src/values.rt:198:9
-height-in-requires-3 : tie.Need-height-in-requires-3
-height-in-requires-3 c κs = search needs
-
--- src/values.rt:199:9
-char-in-requires-4 : tie.Need-char-in-requires-4
-char-in-requires-4 c κs = search needs
-
--- src/values.rt:200:9
-char-in-requires-5 : tie.Need-char-in-requires-5
-char-in-requires-5 c κs = search needs
-
--- src/values.rt:189:5
-new-requires : tie.Need-new-requires
-new-requires c κs = search needs
-
--- src/values.rt:186:1
 returns : tie.Need-returns
 returns c =
     let k0 = c .before in
@@ -72,16 +24,16 @@ pub read-heights-spec : {M : Type 1} → statement M
 read-heights-spec =
     tie.close
     (tie.spec
-    number-in-requires
-    height-in-requires
-    char-in-requires
-    two-in-requires
-    char-in-requires-2
-    two-in-requires-2
-    height-in-requires-2
-    char-in-requires-3
-    height-in-requires-3
-    char-in-requires-4
-    char-in-requires-5
-    new-requires
+    (λ c κs. search needs)
+    (λ c κs. search needs)
+    (λ c κs. search needs)
+    (λ c κs. search needs)
+    (λ c κs. search needs)
+    (λ c κs. search needs)
+    (λ c κs. search needs)
+    (λ c κs. search needs)
+    (λ c κs. search needs)
+    (λ c κs. search needs)
+    (λ c κs. search needs)
+    (λ c κs. search needs)
     returns)

@@ -1,3 +1,4 @@
+-- One arm for each kind.
 use borrow.Author.Needs.{needs}
 use native.Mathlib.Omega.{arith}
 use mathlib.Core.Path.{_≡_, _∙_, ap}
@@ -6,59 +7,24 @@ use Rattle.reading.proofs.ValueLaws.{instrument-is, antenna-is, point-i
 use Rattle.reading.proofs.values.read_high.Statement.{statement}
 use Rattle.reading.proofs.values.read_high.Tie as tie
 
--- src/values.rt:236:35
-read-instrument-requires : tie.Need-read-instrument-requires
-read-instrument-requires c κs = search needs
-
--- src/values.rt:236:9
 returns : tie.Need-returns
 returns c = let s = c .before .before .before in let e : s .args .kind ≡ 7 = omega arith in of-kind 7 (s .args .kind) (s .args .line .now) (ap R.Instrument (c .read-instrument .ensures) ∙ instrument-is (s .args .line .now)) e
 
--- src/values.rt:239:32
-read-antenna-requires : tie.Need-read-antenna-requires
-read-antenna-requires c κs = search needs
-
--- src/values.rt:239:9
 returns-2 : tie.Need-returns-2
 returns-2 c = let s = c .before .before .before .before in let e : s .args .kind ≡ 8 = omega arith in of-kind 8 (s .args .kind) (s .args .line .now) (ap R.Antenna (c .read-antenna .ensures) ∙ antenna-is (s .args .line .now)) e
 
--- src/values.rt:242:30
-read-point-requires : tie.Need-read-point-requires
-read-point-requires c κs = search needs
-
--- src/values.rt:242:9
 returns-3 : tie.Need-returns-3
 returns-3 c = let s = c .before .before .before .before .before in let e : s .args .kind ≡ 9 = omega arith in of-kind 9 (s .args .kind) (s .args .line .now) (ap R.Point (c .read-point .ensures) ∙ point-is (s .args .line .now)) e
 
--- src/values.rt:245:32
-read-heights-requires : tie.Need-read-heights-requires
-read-heights-requires c κs = search needs
-
--- src/values.rt:245:9
 returns-4 : tie.Need-returns-4
 returns-4 c = let s = c .before .before .before .before .before .before in let e : s .args .kind ≡ 10 = omega arith in of-kind 10 (s .args .kind) (s .args .line .now) (ap R.Heights (c .read-heights .ensures) ∙ heights-is (s .args .line .now)) e
 
--- src/values.rt:248:32
-new-requires : tie.Need-new-requires
-new-requires c κs = search needs
-
--- src/values.rt:248:9
 returns-5 : tie.Need-returns-5
 returns-5 c = let s = c .before .before .before .before .before .before .before in let e : s .args .kind ≡ 11 = omega arith in of-kind 11 (s .args .kind) (s .args .line .now) (ap R.Network (c .new .ensures) ∙ network-is (s .args .line .now)) e
 
--- src/values.rt:251:30
-new-requires-2 : tie.Need-new-requires-2
-new-requires-2 c κs = search needs
-
--- src/values.rt:251:9
 returns-6 : tie.Need-returns-6
 returns-6 c = let s = c .before .before .before .before .before .before .before .before in let e : s .args .kind ≡ 12 = omega arith in of-kind 12 (s .args .kind) (s .args .line .now) (ap R.Local (c .new2 .ensures) ∙ local-is (s .args .line .now)) e
 
--- src/values.rt:253:20
-new-requires-3 : tie.Need-new-requires-3
-new-requires-3 c κs = search needs
-
--- src/values.rt:231:1
 returns-7 : tie.Need-returns-7
 returns-7 c = let s = c .before .before .before .before .before .before .before .before in let e : s .args .kind ≡ 13 = omega arith in of-kind 13 (s .args .kind) (s .args .line .now) (ap R.Factor (c .new3 .ensures) ∙ factor-is (s .args .line .now)) e
 
@@ -66,17 +32,17 @@ pub read-high-spec : {M : Type 1} → statement M
 read-high-spec =
     tie.close
     (tie.spec
-    read-instrument-requires
+    (λ c κs. search needs)
     returns
-    read-antenna-requires
+    (λ c κs. search needs)
     returns-2
-    read-point-requires
+    (λ c κs. search needs)
     returns-3
-    read-heights-requires
+    (λ c κs. search needs)
     returns-4
-    new-requires
+    (λ c κs. search needs)
     returns-5
-    new-requires-2
+    (λ c κs. search needs)
     returns-6
-    new-requires-3
+    (λ c κs. search needs)
     returns-7)

@@ -1,3 +1,4 @@
+-- One arm for each kind.
 use borrow.Author.Needs.{needs}
 use native.Mathlib.Omega.{arith}
 use mathlib.Core.Path.{_≡_, _∙_, ap}
@@ -6,59 +7,24 @@ use Rattle.reading.proofs.ValueLaws.{job-is, title-is, continuation-is,
 use Rattle.reading.proofs.values.read_low.Statement.{statement}
 use Rattle.reading.proofs.values.read_low.Tie as tie
 
--- src/values.rt:210:28
-read-job-requires : tie.Need-read-job-requires
-read-job-requires c κs = search needs
-
--- src/values.rt:210:9
 returns : tie.Need-returns
 returns c = let s = c .before .before .before in let e : s .args .kind ≡ 0 = omega arith in of-kind 0 (s .args .kind) (s .args .line .now) (ap R.Job (c .read-job .ensures) ∙ job-is (s .args .line .now)) e
 
--- src/values.rt:213:30
-new-requires : tie.Need-new-requires
-new-requires c κs = search needs
-
--- src/values.rt:213:9
 returns-2 : tie.Need-returns-2
 returns-2 c = let s = c .before .before .before .before in let e : s .args .kind ≡ 1 = omega arith in of-kind 1 (s .args .kind) (s .args .line .now) (ap R.Title (c .new .ensures) ∙ title-is (s .args .line .now)) e
 
--- src/values.rt:216:37
-new-requires-2 : tie.Need-new-requires-2
-new-requires-2 c κs = search needs
-
--- src/values.rt:216:9
 returns-3 : tie.Need-returns-3
 returns-3 c = let s = c .before .before .before .before .before in let e : s .args .kind ≡ 2 = omega arith in of-kind 2 (s .args .kind) (s .args .line .now) (ap R.Continuation (c .new2 .ensures) ∙ continuation-is (s .args .line .now)) e
 
--- src/values.rt:219:32
-read-project-requires : tie.Need-read-project-requires
-read-project-requires c κs = search needs
-
--- src/values.rt:219:9
 returns-4 : tie.Need-returns-4
 returns-4 c = let s = c .before .before .before .before .before .before in let e : s .args .kind ≡ 3 = omega arith in of-kind 3 (s .args .kind) (s .args .line .now) (ap R.Project (c .read-project .ensures) ∙ project-is (s .args .line .now)) e
 
--- src/values.rt:222:35
-read-occupation-requires : tie.Need-read-occupation-requires
-read-occupation-requires c κs = search needs
-
--- src/values.rt:222:9
 returns-5 : tie.Need-returns-5
 returns-5 c = let s = c .before .before .before .before .before .before .before in let e : s .args .kind ≡ 4 = omega arith in of-kind 4 (s .args .kind) (s .args .line .now) (ap R.Occupation (c .read-occupation .ensures) ∙ occupation-is (s .args .line .now)) e
 
--- src/values.rt:225:32
-new-requires-3 : tie.Need-new-requires-3
-new-requires-3 c κs = search needs
-
--- src/values.rt:225:9
 returns-6 : tie.Need-returns-6
 returns-6 c = let s = c .before .before .before .before .before .before .before .before in let e : s .args .kind ≡ 5 = omega arith in of-kind 5 (s .args .kind) (s .args .line .now) (ap R.Comment (c .new3 .ensures) ∙ comment-is (s .args .line .now)) e
 
--- src/values.rt:227:25
-read-measurement-requires : tie.Need-read-measurement-requires
-read-measurement-requires c κs = search needs
-
--- src/values.rt:205:1
 returns-7 : tie.Need-returns-7
 returns-7 c = let s = c .before .before .before .before .before .before .before .before in let e : s .args .kind ≡ 6 = omega arith in of-kind 6 (s .args .kind) (s .args .line .now) (ap R.Measurement (c .read-measurement .ensures) ∙ measurement-is (s .args .line .now)) e
 
@@ -66,17 +32,17 @@ pub read-low-spec : {M : Type 1} → statement M
 read-low-spec =
     tie.close
     (tie.spec
-    read-job-requires
+    (λ c κs. search needs)
     returns
-    new-requires
+    (λ c κs. search needs)
     returns-2
-    new-requires-2
+    (λ c κs. search needs)
     returns-3
-    read-project-requires
+    (λ c κs. search needs)
     returns-4
-    read-occupation-requires
+    (λ c κs. search needs)
     returns-5
-    new-requires-3
+    (λ c κs. search needs)
     returns-6
-    read-measurement-requires
+    (λ c κs. search needs)
     returns-7)

@@ -1,3 +1,4 @@
+-- Each value from its own columns; a signed one comes back from its word.
 use borrow.Author.Needs.{needs}
 use mathlib.Core.Path.{_∙_}
 use mir.Facts.{toZ-ofZ}

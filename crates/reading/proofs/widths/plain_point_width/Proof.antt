@@ -3,27 +3,21 @@ use Rattle.reading.proofs.WidthLaws.{plain-station, plain-name, plain-s
 use Rattle.reading.proofs.widths.plain_point_width.Statement.{statement}
 use Rattle.reading.proofs.widths.plain_point_width.Tie as tie
 
--- src/widths.rt:45:9
 returns : tie.Need-returns
 returns c = search (plain-station, needs)
 
--- src/widths.rt:48:9
 returns-2 : tie.Need-returns-2
 returns-2 c = search (plain-name, needs)
 
--- src/widths.rt:51:9
 returns-3 : tie.Need-returns-3
 returns-3 c = search (plain-spacer, needs)
 
--- src/widths.rt:54:9
 returns-4 : tie.Need-returns-4
 returns-4 c = search (plain-state, needs)
 
--- src/widths.rt:57:9
 returns-5 : tie.Need-returns-5
 returns-5 c = search (plain-end, needs)
 
--- src/widths.rt:41:1
 returns-6 : tie.Need-returns-6
 returns-6 c = search (plain-none, needs)
 

@@ -2,26 +2,19 @@ use borrow.Author.Needs.{needs}
 use Rattle.walk.proofs.KeptLaws.{expect-27, expect-70, expect-72, expect-86, expect-none}
 use Rattle.walk.proofs.kept.expect.Statement.{statement}
 use Rattle.walk.proofs.kept.expect.Tie as tie
-use Rattle.walk.proofs.kept.expect.Reads as reads
-use Rattle.walk.proofs.kept.expect.Lts as lts
 
--- src/kept.rt:22:1
 returns : tie.Need-returns
 returns c = search (expect-27, needs)
 
--- src/kept.rt:22:1
 returns-2 : tie.Need-returns-2
 returns-2 c = search (expect-70, needs)
 
--- src/kept.rt:22:1
 returns-3 : tie.Need-returns-3
 returns-3 c = search (expect-72, needs)
 
--- src/kept.rt:22:1
 returns-4 : tie.Need-returns-4
 returns-4 c = search (expect-86, needs)
 
--- src/kept.rt:22:1
 returns-5 : tie.Need-returns-5
 returns-5 c = search (expect-none, needs)
 

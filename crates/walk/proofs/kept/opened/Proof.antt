@@ -2,14 +2,10 @@ use borrow.Author.Needs.{needs}
 use Rattle.walk.proofs.KeptLaws.{opened-first, opened-later}
 use Rattle.walk.proofs.kept.opened.Statement.{statement}
 use Rattle.walk.proofs.kept.opened.Tie as tie
-use Rattle.walk.proofs.kept.opened.Reads as reads
-use Rattle.walk.proofs.kept.opened.Lts as lts
 
--- src/kept.rt:62:9
 returns : tie.Need-returns
 returns c = search (opened-first, needs)
 
--- src/kept.rt:58:1
 returns-2 : tie.Need-returns-2
 returns-2 c = search (opened-later, needs)
 

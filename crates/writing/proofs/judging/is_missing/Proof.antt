@@ -1,3 +1,4 @@
+-- A height that is missing, and one that is there.
 use borrow.Author.Needs.{needs}
 use Rattle.rules.specs.Fields.{isMissing}
 use Rattle.columns.specs.Types.{heightValue}

@@ -1,3 +1,4 @@
+-- The field's test by its own promise, after the verdict so far.
 use mathlib.Core.Path.{_∙_}
 use borrow.Author.Needs.{needs}
 use Rattle.writing.proofs.judging.judge_month.Statement.{statement}

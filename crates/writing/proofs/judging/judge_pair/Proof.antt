@@ -1,3 +1,4 @@
+-- The field's test by its own promise, after the verdict so far.
 use mathlib.Core.Path.{_∙_}
 use borrow.Author.Needs.{needs}
 use mathlib.Core.List.{_∷_, []}

@@ -1,3 +1,4 @@
+-- The field's test by its own promise, after the verdict so far.
 use borrow.Author.Needs.{needs}
 use Rattle.writing.proofs.JudgeLaws.{tied-judged}
 use Rattle.writing.proofs.judging.judge_tied.Statement.{statement}

@@ -1,3 +1,4 @@
+-- What is laid is what the field renders; without room nothing changes.
 use mathlib.Core.Path.{sym, _∙_}
 use borrow.Author.Needs.{needs}
 use native.Mathlib.Omega.{arith}

@@ -1,3 +1,4 @@
+-- One arm for each kind.
 use mathlib.Core.Path.{sym}
 use borrow.Author.Needs.{needs}
 use Rattle.rules.specs.Characters.{ascii}

@@ -1,12 +1,12 @@
+-- Field after field: each is laid over what those before it have left.
 use borrow.Author.Needs.{needs}
-use Rattle.rules.specs.Layouts.{heights}
 use Rattle.kinds.specs.Values.{valuesOf}
 use Rattle.writing.specs.Laying.{layFields}
 use Rattle.writing.proofs.lines.lay_heights.Statement.{statement}
 use Rattle.writing.proofs.lines.lay_heights.Tie as tie
 
 returns : tie.Need-returns
-unfolding layFields valuesOf heights
+unfolding layFields valuesOf
 returns c =
     rw (c .before .before .lay-other-heights .ensures, c .before .before .before .before .before .before .lay-orthometric .ensures)
 

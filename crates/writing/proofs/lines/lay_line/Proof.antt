@@ -1,3 +1,4 @@
+-- Sequence number, code, fields, line feed.
 use borrow.Author.Needs.{needs}
 use Rattle.writing.proofs.GivenLaws.{given-formed, given-laid, sequence-count}
 use Rattle.kinds.specs.Values.{sequenceValue}

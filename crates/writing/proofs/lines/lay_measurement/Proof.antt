@@ -1,7 +1,7 @@
+-- Field after field: each is laid over what those before it have left.
 use mathlib.Core.Path.{_≡_, ap, _∙_}
 use borrow.Author.Needs.{needs}
 use Rattle.rules.specs.Items.{render, onNumber, onText, onGap}
-use Rattle.rules.specs.Layouts.{at, tied, station, measurement}
 use Rattle.columns.specs.Types.{heightValue}
 use Rattle.columns.specs.Leaves.{heightColumns}
 use Rattle.kinds.specs.Values.{valuesOf}
@@ -14,7 +14,7 @@ use Rattle.writing.proofs.lines.lay_measurement.Statement.{statement}
 use Rattle.writing.proofs.lines.lay_measurement.Tie as tie
 
 returns : tie.Need-returns
-unfolding layFields at tied station heightColumns heightValue valuesOf render onNumber onText onGap measurement
+unfolding layFields heightColumns heightValue valuesOf render onNumber onText onGap
 returns c =
     let a = c .before .before .before .before .before .before .before .before .before .before .before .before .before .before .before .before .before .before .before .before .before .before .before .before .before .before .args in
     let height-back : toZ w32 (ofZ w32 (a .m .height)) ≡ a .m .height = search needs in

@@ -1,16 +1,16 @@
+-- Field after field: each is laid over what those before it have left.
 use mathlib.Core.Path.{ap, _∙_}
 use borrow.Author.Needs.{needs}
 use lib.ListN.{length}
 use Rattle.writing.proofs.LayLaws.{fields-length}
 use Rattle.rules.specs.Items.{render, onNumber, onText, onGap}
-use Rattle.rules.specs.Layouts.{at, station, instrument, antenna, initials, occupation}
 use Rattle.kinds.specs.Values.{valuesOf}
 use Rattle.writing.specs.Laying.{layFields}
 use Rattle.writing.proofs.lines.lay_occupation.Statement.{statement}
 use Rattle.writing.proofs.lines.lay_occupation.Tie as tie
 
 returns : tie.Need-returns
-unfolding layFields at station instrument antenna initials valuesOf render onNumber onText onGap occupation
+unfolding layFields valuesOf render onNumber onText onGap
 returns c =
     rw (c .before .before .lay-blank2 .ensures, c .before .before .before .before .before .before .lay-number3 .ensures, c .before .before .before .before .before .before .before .before .before .before .lay-blank .ensures, c .before .before .before .before .before .before .before .before .before .before .before .before .before .before .lay-number2 .ensures, c .before .before .before .before .before .before .before .before .before .before .before .before .before .before .before .before .before .before .lay-three .ensures, c .before .before .before .before .before .before .before .before .before .before .before .before .before .before .before .before .before .before .before .before .before .before .lay-media .ensures, c .before .before .before .before .before .before .before .before .before .before .before .before .before .before .before .before .before .before .before .before .before .before .before .before .before .before .lay-number .ensures)
 

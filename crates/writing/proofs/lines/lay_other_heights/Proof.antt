@@ -1,9 +1,9 @@
+-- Field after field: each is laid over what those before it have left.
 use mathlib.Core.Path.{ap, _∙_}
 use borrow.Author.Needs.{needs}
 use lib.ListN.{length}
 use Rattle.writing.proofs.LayLaws.{fields-length}
 use Rattle.rules.specs.Items.{render, onNumber, onText, onGap}
-use Rattle.rules.specs.Layouts.{at, tied, anyText, metres, letterOrBlank, heights}
 use Rattle.columns.specs.Leaves.{heightColumns}
 use Rattle.kinds.specs.Values.{valuesOf}
 use Rattle.writing.specs.Laying.{layFields}
@@ -11,7 +11,7 @@ use Rattle.writing.proofs.lines.lay_other_heights.Statement.{statement}
 use Rattle.writing.proofs.lines.lay_other_heights.Tie as tie
 
 returns : tie.Need-returns
-unfolding layFields at tied anyText metres letterOrBlank heightColumns valuesOf render onNumber onText onGap heights
+unfolding layFields heightColumns valuesOf render onNumber onText onGap
 returns c =
     rw (c .before .before .lay-text .ensures, c .before .before .before .before .before .before .lay-one3 .ensures, c .before .before .before .before .before .before .before .before .before .before .lay-blank2 .ensures, c .before .before .before .before .before .before .before .before .before .before .before .before .before .before .lay-one2 .ensures, c .before .before .before .before .before .before .before .before .before .before .before .before .before .before .before .before .before .before .lay-height2 .ensures, c .before .before .before .before .before .before .before .before .before .before .before .before .before .before .before .before .before .before .before .before .before .before .lay-blank .ensures, c .before .before .before .before .before .before .before .before .before .before .before .before .before .before .before .before .before .before .before .before .before .before .before .before .before .before .lay-one .ensures, c .before .before .before .before .before .before .before .before .before .before .before .before .before .before .before .before .before .before .before .before .before .before .before .before .before .before .before .before .before .before .lay-height .ensures)
 

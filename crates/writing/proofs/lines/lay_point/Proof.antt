@@ -1,9 +1,9 @@
+-- Field after field: each is laid over what those before it have left.
 use mathlib.Core.Path.{_≡_, refl, ap, _∙_}
 use borrow.Author.Needs.{needs}
 use lib.ListN.{length}
 use Rattle.writing.proofs.LayLaws.{fields-length}
 use Rattle.rules.specs.Items.{render, onNumber, onText, onGap}
-use Rattle.rules.specs.Layouts.{at, station, state, anyText, point}
 use Rattle.columns.specs.Types.{wayOf}
 use Rattle.kinds.specs.Values.{valuesOf}
 use Rattle.writing.specs.Laying.{lay, layFields}
@@ -28,7 +28,7 @@ lay-angle-requires-2 c κs =
     (refl, ap (λ z. fits (angle longitude) (num z)) longitude-back ∙ c .before .before .before .before .before .before .before .before .before .before .before .before .before .before .before .before .before .pre .1)
 
 returns : tie.Need-returns
-unfolding layFields at station anyText state wayOf valuesOf render onNumber onText onGap point
+unfolding layFields wayOf valuesOf render onNumber onText onGap
 returns c =
     let a = c .before .before .before .before .before .before .before .before .before .before .before .before .before .before .before .before .before .before .before .before .before .before .before .before .before .before .before .before .before .before .before .before .args in
     let latitude-back : toZ w64 (ofZ w64 (a .p .latitude)) ≡ a .p .latitude = search needs in

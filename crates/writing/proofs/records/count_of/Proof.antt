@@ -1,3 +1,4 @@
+-- A sequence number that is missing, and one that is there.
 use mathlib.Core.Path.{sym}
 use borrow.Author.Needs.{needs}
 use Rattle.columns.specs.Types.{countValue}

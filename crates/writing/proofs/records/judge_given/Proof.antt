@@ -1,3 +1,4 @@
+-- The sequence number, then the record.
 use borrow.Author.Needs.{needs}
 use Rattle.writing.proofs.GivenLaws.{sequence-fits, given-judged}
 use Rattle.writing.proofs.records.judge_given.Statement.{statement}

@@ -1,3 +1,4 @@
+-- Field after field from the left: the first fault stays.
 use mathlib.Core.Path.{sym, ap, _∙_}
 use borrow.Author.Needs.{needs}
 use Rattle.writing.proofs.JudgeLaws.{after-chain}

@@ -1,3 +1,4 @@
+-- The test as the definition has it.
 use borrow.Author.Needs.{needs}
 use Rattle.writing.specs.Styling.{sided}
 use Rattle.writing.proofs.styles.is_sided.Statement.{statement}

@@ -1,3 +1,4 @@
+-- A copy of the line, its fields in house style, its number, its line feed.
 use mathlib.Core.Path.{sym, _∙_}
 use borrow.Author.Needs.{needs}
 use Rattle.writing.proofs.LayLaws.{text-is}

@@ -1,3 +1,4 @@
+-- The test as the definition has it.
 use borrow.Author.Needs.{needs}
 use Rattle.rules.proofs.Truth.{of≤, of>, of≡, of≢}
 use Rattle.writing.specs.Styling.{riseStands}

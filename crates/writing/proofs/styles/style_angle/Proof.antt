@@ -1,3 +1,4 @@
+-- What stands in house style already stays; the rest is written anew, in the field's own columns.
 use borrow.Author.Needs.{needs}
 use Prim.Native.Nat.{_+_}
 use lib.ListN.{set, length-set}

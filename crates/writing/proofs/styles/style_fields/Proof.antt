@@ -1,3 +1,4 @@
+-- One arm for each kind that has a field house style can change.
 use borrow.Author.Needs.{needs}
 use Rattle.writing.proofs.StyleLaws.{rest-stays}
 use Rattle.writing.proofs.styles.style_fields.Statement.{statement}

@@ -1,3 +1,4 @@
+-- Field after field: each changes its own columns only.
 use borrow.Author.Needs.{needs}
 use Rattle.kinds.specs.Tables.{fieldOf}
 use Rattle.writing.specs.Styling.{changeField, changeRows}

@@ -1,3 +1,4 @@
+-- What stands in house style already stays; the rest is written anew, in the field's own columns.
 use mathlib.Core.List.{map}
 use lib.ListN.{length-map}
 use borrow.Author.Needs.{needs}

@@ -1,3 +1,4 @@
+-- Field after field: each changes its own columns only.
 use borrow.Author.Needs.{needs}
 use Rattle.rules.specs.Items.{columns, plus}
 use Rattle.columns.specs.Types.{wayOf}

@@ -1,3 +1,4 @@
+-- What stands in house style already stays; the rest is written anew, in the field's own columns.
 use borrow.Author.Needs.{needs}
 use Rattle.writing.specs.Styling.{riseStands, heightAnew}
 use Rattle.writing.proofs.StandLaws.{height-same}

@@ -1,3 +1,4 @@
+-- The height is read and written.
 use borrow.Author.Needs.{needs}
 use Rattle.writing.specs.Styling.{heightAnew}
 use Rattle.writing.proofs.styles.write_height.Statement.{statement}

@@ -1,3 +1,4 @@
+-- A blank becomes a zero, anything else stays.
 use Rattle.rules.proofs.Truth.{of≤, of>}
 use Rattle.writing.specs.Styling.{filled}
 use Rattle.writing.proofs.styles.zero_before_digits.Statement.{statement}
