@@ -1,25 +1,31 @@
 -- Chapter 4 is a sound edition: its codes have four characters, its layouts fill columns 11-80, its references are judged in the paper's order.
 use mathlib.Core.Path.{_≡_, refl, sym, _∙_, ap, ap₂}
 use mathlib.Core.Bool.{true}
-use mathlib.Core.List.{List, [], _∷_, map}
+use mathlib.Core.Logic.{inl, inr}
+use mathlib.Core.List.{List, [], _∷_, _++_, map}
 use Prim.Native.Nat.{ℕ, suc, _+_, _-_, _≤_, _<_}
 use native.Mathlib.Omega.{arith}
-use lib.ListN.{length, take, drop, getD}
+use lib.ListN.{length, length-append, take, drop, getD}
 use lib.Seq.{drop-drop}
-use Rattle.rules.specs.Tests.{all, _&_, _≤?_, _=?_}
-use Rattle.rules.specs.Characters.{isPrintable, isDigit, isLetter, anyOf, letter, digit, _or_, member}
+use Rattle.rules.specs.Tests.{all, within, _&_, _≤?_, _=?_}
+use Rattle.rules.specs.Characters.{isPrintable, anyOf, letter, digit, _or_}
 use Rattle.rules.specs.Items.{columns, width, valueOf}
 use Rattle.rules.specs.Fields.{Field, columnsOf, values, covers}
 use Rattle.rules.specs.Records.{codeAt, meaning}
 use Rattle.rules.specs.Files.{lines, meanings}
-use Rattle.rules.specs.Kinds.{starred, kindBetween, kindOf, known}
-use Rattle.rules.specs.Layouts.{at, kept, layouts, layout}
+use Rattle.rules.specs.Digits.{put}
+use Rattle.rules.specs.Forms.{Code}
+use Rattle.rules.specs.Kinds.{dataCodes, kindOf, known}
+use Rattle.rules.specs.Layouts.{kept, layouts, layout}
 use Rattle.rules.specs.Order.{mayCome, placeNamed, placeAfter, ruled, order, goto}
 use Rattle.rules.specs.References.{refChecks}
 use Rattle.rules.specs.Faults.{stage, phase}
 use Rattle.rules.specs.Chapter4.{chapter4}
-use Rattle.rules.proofs.Truth.{under, tried, both, and, to≤, to≡, of-within, cases, choice, all-getD}
-use Rattle.rules.proofs.Lawful.{digit-printable, letter-printable}
+use Rattle.rules.proofs.Truth.{all-append, under, tried, both, and, to≡, all-getD}
+use Rattle.rules.proofs.Lawful.{digits-printable, member-printable}
+use Rattle.rules.proofs.DigitLaws.{length-put, digits-put}
+use Rattle.rules.proofs.SetLaws.{of-set}
+use Rattle.rules.proofs.SpellLaws.{code-iff}
 use Rattle.rules.proofs.RecordLaws.{Sound}
 use Rattle.rules.proofs.FaultLaws.{sorted, beforeAll}
 use Rattle.rules.proofs.FileFaults.{SoundRefs, allLate}
@@ -38,35 +44,21 @@ unfolding layout
 layout-covers c = all-getD (covers 11) layouts kept (kindOf c) layouts-cover kept-covers
 
 -- ---- a known code is four printable characters
-between-printable : (a b : ℕ) → kindBetween a b ≤? 13 ≡ true → (isPrintable a ≡ true) × (isPrintable b ≡ true)
-unfolding kindBetween
-between-printable a b h =
-    cases (isDigit a & isDigit b)
-    (λ e. (digit-printable a (both e .0), digit-printable b (both e .1)))
-    (λ e. cases (isLetter a & member (letter or digit) b)
-    (λ k. (letter-printable a (both k .0), second (both k .1)))
-    (λ k. absurd (omega (arith, to≤ (rw (e, k) at h)))))
-  where
-    second : member (letter or digit) b ≡ true → isPrintable b ≡ true
-    second k = unfold member in choice (isLetter b) (isDigit b) k _ (letter-printable b) (digit-printable b)
+star : isPrintable 42 ≡ true
+unfolding isPrintable within _≤?_ _&_
+star = refl
 
-spelled : (c : List ℕ) → starred c ≡ true → kindBetween (getD c 1 0) (getD c 2 0) ≤? 13 ≡ true → (length c ≡ 4) × (all isPrintable c ≡ true)
-unfolding starred all
-spelled [] e h = absurd (omega (arith, to≡ (both (both e .0) .0)))
-spelled (a ∷ []) e h = absurd (omega (arith, to≡ (both (both e .0) .0)))
-spelled (a ∷ b ∷ []) e h = absurd (omega (arith, to≡ (both (both e .0) .0)))
-spelled (a ∷ b ∷ c ∷ []) e h = absurd (omega (arith, to≡ (both (both e .0) .0)))
-spelled (a ∷ b ∷ c ∷ d ∷ []) e h =
-    let between = between-printable b c h in
-    (refl, and (star a (to≡ (both (both e .0) .1))) (and (between .0) (and (between .1) (and (star d (to≡ (both e .1))) refl))))
-  where
-    star : (x : ℕ) → x ≡ 42 → isPrintable x ≡ true
-    star x z = unfold isPrintable in of-within (omega arith) (omega arith)
-spelled (a ∷ b ∷ c ∷ d ∷ x ∷ xs) e h = absurd (omega (arith, to≡ (both (both e .0) .0)))
+code-four : (c : List ℕ) (k : ℕ) → Code c k → (length c ≡ 4) × (all isPrintable c ≡ true)
+unfolding Code all
+code-four c k (inl (e, a, b, q, x, y)) =
+    rw q (refl, and star (and (member-printable letter a (of-set letter a x)) (and (member-printable (letter or digit) b (of-set (letter or digit) b y)) (and star refl))))
+code-four c k (inr (least, most, q)) =
+    let n = getD dataCodes (k - 1) 0 in
+    let size : length (put 2 n ++ 42 ∷ []) ≡ 3 = length-append (put 2 n) (42 ∷ []) ∙ omega (arith, length-put 2 n) in
+    rw q (ap suc size, and star (all-append isPrintable (put 2 n) (42 ∷ []) (digits-printable (put 2 n) (digits-put 2 n)) (and star refl)))
 
 known-four : (c : List ℕ) → known c ≡ true → (length c ≡ 4) × (all isPrintable c ≡ true)
-unfolding known kindOf
-known-four c h = cases (starred c) (λ e. spelled c e (rw e at h)) (λ e. absurd (omega (arith, to≤ (rw e at h))))
+known-four c h = code-four c (kindOf c) (code-iff c (kindOf c) .0 (h, refl))
 
 pub sound : Sound chapter4
 sound = record { four = known-four; filled = λ c h. layout-covers c }
