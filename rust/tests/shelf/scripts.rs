@@ -20,7 +20,11 @@ const RT: &str = "#!/bin/sh\n\
     chmod +x target/bin/sheet\n\
     rmdir busy\n";
 
-/// A tree with the script and a stand-in for rt, in folders of their own.
+/// Runs the program that it is told to emulate, the last of its words: on
+/// another processor than x86-64 the script looks for it in the kit.
+const EMULATOR: &str = "#!/bin/sh\nfor word; do :; done\nexec \"$word\"\n";
+
+/// A tree with the script, and stand-ins for rt and for the kit's emulator.
 fn tree(name: &str) -> Desk {
     let desk = Desk::new(name);
     desk.put("tree/crates/one/src/lib.rt", b"");
@@ -30,6 +34,9 @@ fn tree(name: &str) -> Desk {
     desk.mode("tree/shelf-sheet", 0o755);
     desk.put("kit/rt", RT.as_bytes());
     desk.mode("kit/rt", 0o755);
+    let emulator = format!("on/{}/toolchain/bin/qemu-x86_64", std::env::consts::ARCH);
+    desk.put(&emulator, EMULATOR.as_bytes());
+    desk.mode(&emulator, 0o755);
     desk.put("five", b"12345");
     desk
 }
@@ -154,7 +161,12 @@ fn without_rt_the_built_program_still_runs() {
         ran.err
     );
     sheet(&desk, &["five"]).ended(0);
-    assert_eq!(without(&desk).ended(0).out.trim(), "5");
+    if cfg!(target_arch = "x86_64") {
+        assert_eq!(without(&desk).ended(0).out.trim(), "5");
+    } else {
+        let ran = without(&desk).ended(2);
+        assert!(ran.err.contains("the emulator"), "{}", ran.err);
+    }
 }
 
 /// What is linked is what the sources say.
