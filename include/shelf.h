@@ -27,6 +27,7 @@ extern "C" {
 #define SHELF_READ_ANSWER 32
 #define SHELF_FIELD_ANSWER 2
 #define SHELF_WRITE_ANSWER 3
+#define SHELF_PAD_ANSWER 4
 #define SHELF_TABLE_WORDS 12000
 
 /* A missing height, in what shelf_read gives and shelf_write takes. */
@@ -99,6 +100,21 @@ void shelf_write(uint8_t *out, size_t room,
                  const uint8_t *second, size_t second_len,
                  const uint8_t *third, size_t third_len,
                  uint32_t *answer, size_t answers);
+
+/* Fills the lines of an input with blanks and puts them into out.
+ *
+ * A line ends with LF or CR LF, or at the end of the input if bytes follow
+ * the last LF; a CR anywhere else is a byte of its line. It has at most 80
+ * bytes and comes out with blanks up to 80 and one line feed.
+ * answer: number, record, column, then the number of lines, 0 on a refusal.
+ * Line by line, 2 is a line 100,000 (column 1) and 5 a line above 80 bytes
+ * (column 81), 2 before 5 in a line, whose number is the record; then 1 is an
+ * output below 81 bytes for each line. On success the first 81 x lines bytes
+ * of out are the padded lines; the rest of it stays, and a refusal leaves all
+ * of it as it was. */
+void shelf_pad(const uint8_t *input, size_t len,
+               uint8_t *out, size_t room,
+               uint32_t *answer, size_t answers);
 
 #ifdef __cplusplus
 }

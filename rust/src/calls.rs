@@ -1,4 +1,4 @@
-//! The five calls in the word form of `include/shelf.h`.
+//! The six calls in the word form of `include/shelf.h`.
 //!
 //! The proved library and the implementations in Rust answer through this one
 //! interface, so that they are compared word by word and byte by byte.
@@ -11,6 +11,8 @@ pub const READ_WORDS: usize = 32;
 pub const FIELD_WORDS: usize = 2;
 /// Write answers number, record and column.
 pub const WRITE_WORDS: usize = 3;
+/// Pad answers number, record, column and lines.
+pub const PAD_WORDS: usize = 4;
 
 /// Where the kind stands in an answer of read.
 pub const KIND_WORD: usize = 3;
@@ -35,7 +37,7 @@ pub trait FileCalls {
     fn rewrite(&self, file: &[u8], table: &mut [u32], out: &mut [u8], answer: &mut [u32]);
 }
 
-/// All five calls.
+/// All six calls.
 pub trait Calls: FileCalls {
     fn read(&self, file: &[u8], record: u32, answer: &mut [i64]);
 
@@ -44,4 +46,6 @@ pub trait Calls: FileCalls {
     /// `values` are the kind, the sequence number and the values as read
     /// gives them; `texts` the long texts in column order.
     fn write(&self, out: &mut [u8], values: &[i64], texts: [&[u8]; 3], answer: &mut [u32]);
+
+    fn pad(&self, input: &[u8], out: &mut [u8], answer: &mut [u32]);
 }

@@ -707,6 +707,21 @@ pub fn telling(dice: &mut Dice, field: &mut [u8]) {
     }
 }
 
+/// A file of whole lines as an editor leaves it that strips trailing blanks
+/// and ends lines in a way of its own.
+pub fn stripped(file: &[u8], end: &str) -> Vec<u8> {
+    file.chunks_exact(LINE)
+        .flat_map(|line| [without_blanks(line), end.as_bytes()].concat())
+        .collect()
+}
+
+/// The columns of a line up to the last that is not blank.
+pub fn without_blanks(line: &[u8]) -> &[u8] {
+    let columns = &line[..LINE - 1];
+    let last = columns.iter().rposition(|&byte| byte != b' ');
+    &columns[..last.map_or(0, |last| last + 1)]
+}
+
 /// The starts of the whole lines of these kinds.
 fn starts(file: &[u8], kinds: &[usize]) -> Vec<usize> {
     (0..file.len() / LINE)

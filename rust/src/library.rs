@@ -1,11 +1,11 @@
 //! The proved library, called safely.
 //!
-//! [`Library`] has the five calls in the word form of `include/shelf.h`; the
+//! [`Library`] has the six calls in the word form of `include/shelf.h`; the
 //! functions below it give the same answers as values, for the command line.
 
 use crate::calls::{
     Calls, FileCalls, CHECK_WORDS, FIELD_WORDS, FIRST_VALUE_WORD, KIND_WORD, NO_SEQUENCE,
-    READ_WORDS, SEQUENCE_WORD, WRITE_WORDS,
+    PAD_WORDS, READ_WORDS, SEQUENCE_WORD, WRITE_WORDS,
 };
 
 /// Words of the station table.
@@ -63,6 +63,14 @@ extern "C" {
         second_len: usize,
         third: *const u8,
         third_len: usize,
+        answer: *mut u32,
+        answers: usize,
+    );
+    fn shelf_pad(
+        input: *const u8,
+        len: usize,
+        out: *mut u8,
+        room: usize,
         answer: *mut u32,
         answers: usize,
     );
@@ -148,6 +156,19 @@ impl Calls for Library {
             )
         }
     }
+
+    fn pad(&self, input: &[u8], out: &mut [u8], answer: &mut [u32]) {
+        unsafe {
+            shelf_pad(
+                input.as_ptr(),
+                input.len(),
+                out.as_mut_ptr(),
+                out.len(),
+                answer.as_mut_ptr(),
+                answer.len(),
+            )
+        }
+    }
 }
 
 /// Number, record and column; number 0 is acceptance.
@@ -180,6 +201,19 @@ impl Verdict {
             },
             counts,
         }
+    }
+}
+
+/// What pad says of an input: how many lines it has, 0 on a refusal.
+#[derive(Clone, Copy, Debug, PartialEq, Eq)]
+pub struct Padding {
+    pub fault: Fault,
+    pub lines: u32,
+}
+
+impl Padding {
+    pub fn is_good(&self) -> bool {
+        self.fault.number == 0
     }
 }
 
@@ -247,4 +281,22 @@ pub fn write(out: &mut [u8], values: &[i64], texts: [&[u8]; 3]) -> Fault {
         record,
         column,
     }
+}
+
+/// Gives the lines of an input filled with blanks, or nothing on a refusal.
+/// The output it lends is never too short, since a line takes at least one
+/// byte of the input; what is not written of it costs nothing, since the
+/// system gives zeros untouched.
+pub fn pad(input: &[u8]) -> (Padding, Vec<u8>) {
+    let mut answer = [0; PAD_WORDS];
+    let mut out = vec![0; LINE * input.len().min(LAST_RECORD)];
+    Library.pad(input, &mut out, &mut answer);
+    let [number, record, column, lines] = answer;
+    out.truncate(LINE * lines as usize);
+    let fault = Fault {
+        number,
+        record,
+        column,
+    };
+    (Padding { fault, lines }, out)
 }

@@ -1,17 +1,21 @@
-//! Check, read, write, rewrite and the deposit sheet, as the paper has them.
+//! Check, read, write, rewrite, the padding step and the deposit sheet, as the
+//! paper and the requests have them.
 //!
 //! From below: `fields` reads and writes one field, `layout` says which
 //! fields a record has, `records` handles one record by itself, `walk`
-//! handles a whole file, `sheet` prints, `words` puts answers into the form
-//! of the library's header.
+//! handles a whole file, `padding` fills the lines of one that is not judged
+//! yet, `sheet` prints, `words` puts answers into the form of the library's
+//! header.
 
 pub mod fields;
 pub mod layout;
+mod padding;
 mod records;
 mod sheet;
 mod walk;
 mod words;
 
+pub use padding::{pad, Padded};
 pub use records::{field, read, write, Reading};
 pub use sheet::sheet;
 pub use walk::{check, rewrite};

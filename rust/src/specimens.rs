@@ -5,8 +5,11 @@
 
 mod accepted;
 mod changed;
+mod inputs;
 mod refused;
 mod survey;
+
+pub use inputs::{inputs, Input};
 
 /// A whole file to try.
 pub struct Specimen {
@@ -54,8 +57,9 @@ impl Specimen {
     }
 }
 
-/// The page beside the files: a row for each.
-pub fn page(all: &[Specimen]) -> String {
+/// The page beside the files: a row for each whole file, then one for each
+/// input of the padding step.
+pub fn page(all: &[Specimen], inputs: &[Input]) -> String {
     let mut page = String::from(HEAD);
     for one in all {
         let (number, record, column) = one.verdict;
@@ -64,6 +68,10 @@ pub fn page(all: &[Specimen]) -> String {
         page.push_str(&format!(
             "| `{name}` | {number} | {record} | {column} | {why} |\n"
         ));
+    }
+    page.push_str(INPUTS_HEAD);
+    for one in inputs {
+        page.push_str(&one.row());
     }
     page
 }
@@ -77,4 +85,15 @@ Fault 1 is tried on an accepted and on a refused one of these, with a table of 1
 
 | file | fault | record | column | what is in it, and why |
 |---|---|---|---|---|
+";
+
+const INPUTS_HEAD: &str = "
+## The inputs padded
+
+Each is an input of the padding step, most of them the work of an editor that strips blanks or ends lines with CR LF. The answer is the request's and check's verdict on the padded lines the rule paper's, both found by hand; the same test holds this table against the plain implementation, and the program prints them in the same order. The output lent has 2,754 bytes, room for 34 lines.
+
+Refusal 1 is tried on `padding_trimmed_cr_lf.bfile`, with an output of 2,672 bytes; 2,673 are enough for its 33 lines. Refusal 2 would take 100,000 lines.
+
+| input | fault | record | column | lines | fault of check | record | column | what is in it, and why |
+|---|---|---|---|---|---|---|---|---|
 ";

@@ -1,4 +1,4 @@
-//! The five symbols of `include/shelf.h` over the plain implementation, so
+//! The six symbols of `include/shelf.h` over the plain implementation, so
 //! that everything above the library can be built and tested where its
 //! archive cannot be linked. It proves nothing.
 
@@ -106,6 +106,24 @@ unsafe extern "C" fn shelf_write(
             from_raw_parts(second, second_len),
             from_raw_parts(third, third_len),
         ],
+        from_raw_parts_mut(answer, answers),
+    );
+}
+
+/// # Safety
+/// As `include/shelf.h` says.
+#[no_mangle]
+unsafe extern "C" fn shelf_pad(
+    input: *const u8,
+    len: usize,
+    out: *mut u8,
+    room: usize,
+    answer: *mut u32,
+    answers: usize,
+) {
+    Plain.pad(
+        from_raw_parts(input, len),
+        from_raw_parts_mut(out, room),
         from_raw_parts_mut(answer, answers),
     );
 }

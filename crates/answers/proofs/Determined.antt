@@ -3,13 +3,16 @@ use mathlib.Core.Path.{_≡_}
 use mathlib.Core.List.{List}
 use Prim.Native.Nat.{ℕ}
 use lib.IntN.{ℤ}
-use Rattle.answers.specs.Promise.{Checks, Rewrites, Reads, Finds, Writes}
+use Rattle.answers.specs.Promise.{Checks, Rewrites, Pads, Reads, Finds, Writes}
 
 pub one-check : (f t a u b v d : List ℕ) → Checks f t a u b → Checks f t a v d → (u ≡ v) × (b ≡ d)
 one-check f t a u b v d p q = (cc, cc)
 
 pub one-rewrite : (f t o a u p b v q d : List ℕ) → Rewrites f t o a u p b → Rewrites f t o a v q d → (u ≡ v) × (p ≡ q) × (b ≡ d)
 one-rewrite f t o a u p b v q d x y = (cc, cc, cc)
+
+pub one-pad : (f o a p b q d : List ℕ) → Pads f o a p b → Pads f o a q d → (p ≡ q) × (b ≡ d)
+one-pad f o a p b q d x y = (cc, cc)
 
 pub one-read : (f : List ℕ) (r : ℕ) (a b d : List ℤ) → Reads f r a b → Reads f r a d → b ≡ d
 one-read f r a b d p q = cc

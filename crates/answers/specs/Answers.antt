@@ -1,4 +1,4 @@
--- What the calls leave in lent memory, and the words of check, rewrite and field.
+-- What the calls leave in lent memory, and the words of check, rewrite, pad and field.
 use mathlib.Core.Path.{_≡_}
 use mathlib.Core.Bool.{cond}
 use mathlib.Core.List.{List, [], _∷_, _++_}
@@ -8,6 +8,7 @@ use Rattle.rules.specs.Tests.{_≤?_}
 use Rattle.rules.specs.Calls.{fieldOffset, fieldOf}
 use Rattle.kinds.specs.declared.Fault.{Fault}
 use Rattle.kinds.specs.declared.Checked.{Checked}
+use Rattle.padding.specs.declared.Padded.{Padded}
 
 -- ---- lent memory
 -- the n words of an answer from the first on; too short an answer is not touched
@@ -24,6 +25,10 @@ faultWords f = f .number ∷ f .«record» ∷ f .column ∷ []
 
 unfoldable pub checkWords : Checked → List ℕ
 checkWords v = faultWords (v .fault) ++ v .counts
+
+-- the number of lines behind the fault
+unfoldable pub paddedWords : Padded → List ℕ
+paddedWords v = faultWords (v .fault) ++ (v .lines ∷ [])
 
 -- what fits words
 pub record Small (f : Fault) : Type 0 where

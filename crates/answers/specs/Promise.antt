@@ -6,8 +6,10 @@ use lib.ListN.{length}
 use lib.IntN.{ℤ}
 use Rattle.rules.specs.Fields.{Verdict}
 use Rattle.rules.specs.Calls.{checkAnswer, checkTable, rewriteAnswer, rewriteTable, rewriteOutput, readOf, writeVerdict, writeOutput}
+use Rattle.rules.specs.Padding.{padAnswer, padOutput}
 use Rattle.kinds.specs.Values.{kindNumber, sequenceValue, meaningOf, checkedOf, readingOf, writtenOf}
-use Rattle.answers.specs.Answers.{answered, touched, checkWords, fieldWords}
+use Rattle.padding.specs.Promise.{paddedOf}
+use Rattle.answers.specs.Answers.{answered, touched, checkWords, paddedWords, fieldWords}
 use Rattle.answers.specs.Words.{readWords}
 use Rattle.answers.specs.Given.{given, sequenceGiven, writtenWords}
 
@@ -21,6 +23,11 @@ pub record Rewrites (f t o a u p b : List ℕ) : Type 0 where
   pub answer : b ≡ answered 17 (checkWords (checkedOf (rewriteAnswer f t o))) a
   pub table : u ≡ touched 17 a (rewriteTable f t o) t
   pub out : p ≡ touched 17 a (rewriteOutput f t o) o
+
+-- of an input f and an output o
+pub record Pads (f o a p b : List ℕ) : Type 0 where
+  pub answer : b ≡ answered 4 (paddedWords (paddedOf (padAnswer f o))) a
+  pub out : p ≡ touched 4 a (padOutput f o) o
 
 -- of a file f and record r
 pub record Reads (f : List ℕ) (r : ℕ) (a b : List ℤ) : Type 0 where

@@ -13,7 +13,8 @@ use Rattle.rules.proofs.Truth.{of≤, of>, to≡, no≡, above-0, cases}
 use Rattle.reading.proofs.CallLaws.{inside, room, empty-offset, some-offset}
 use Rattle.kinds.specs.declared.Fault.{Fault}
 use Rattle.kinds.specs.declared.Checked.{Checked}
-use Rattle.answers.specs.Answers.{answered, touched, faultWords, checkWords, fieldWords}
+use Rattle.padding.specs.declared.Padded.{Padded}
+use Rattle.answers.specs.Answers.{answered, touched, faultWords, checkWords, paddedWords, fieldWords}
 
 -- ---- too short an answer, and one that is long enough
 module _ {A : Type 0} (n : ℕ) (old : List A) where
@@ -51,6 +52,15 @@ fault-words old f h = three-words old _ _ _ h
 pub checked-words : (old xs ys : List ℕ) (v : Checked) → length old ≡ 17 → xs ≡ faultWords (v .fault) → ys ≡ v .counts → length (v .counts) ≡ 14 → putMid 3 14 (putMid 0 3 old xs) ys ≡ checkWords v
 unfolding checkWords faultWords
 checked-words old xs ys v h p q k = rw (p, q, drop-drop 14 3 old, drop-of-length-le old {i = 17} (omega arith), append-nil {A = ℕ})
+
+pub padded-words : (old xs : List ℕ) (v : Padded) → length old ≡ 4 → xs ≡ faultWords (v .fault) → set (putMid 0 3 old xs) 3 (v .lines) ≡ paddedWords v
+unfolding paddedWords faultWords
+padded-words [] xs v h p = absurd (omega arith)
+padded-words (a ∷ []) xs v h p = absurd (omega arith)
+padded-words (a ∷ b ∷ []) xs v h p = absurd (omega arith)
+padded-words (a ∷ b ∷ c ∷ []) xs v h p = absurd (omega arith)
+padded-words (a ∷ b ∷ c ∷ d ∷ []) xs v h p = rw p
+padded-words (a ∷ b ∷ c ∷ d ∷ e ∷ old) xs v h p = absurd (omega arith)
 
 -- ---- words copied one after the other
 pub copy-more : (s t : List ℕ) (i : ℕ) → i < length s → i < length t → take i t ≡ take i s → take (i + 1) (set t i (getD s i 0)) ≡ take (i + 1) s

@@ -10,12 +10,16 @@ use Rattle.rules.specs.Files.{Result, accept, refuse, meanings}
 use Rattle.rules.specs.References.{tally, counts}
 use Rattle.rules.specs.Chapter4.{chapter4}
 use Rattle.rules.specs.Calls.{outcome, answer, bigTable, checkAnswer, rewriteRoom, rewriteAnswer, Reading, values, unread, readOf}
+use Rattle.rules.specs.Padding.{padAnswer, padOutput}
 use Rattle.rules.proofs.ReferenceLaws.{length-tabulate}
 use Rattle.rules.proofs.Bounds.{answer-bounded, unread-bounds}
 use Rattle.kinds.specs.declared.Checked.{Checked}
 use Rattle.kinds.specs.declared.Fault.{Fault}
 use Rattle.kinds.specs.declared.Reading as kinds
 use Rattle.kinds.specs.Values.{checkedOf, readingOf}
+use Rattle.padding.specs.declared.Padded.{Padded}
+use Rattle.padding.specs.Promise.{paddedOf}
+use Rattle.padding.proofs.PadDemands.{demand-1-pad}
 use Rattle.answers.specs.Answers.{Small, Counted}
 use Rattle.answers.specs.Words.{Told}
 
@@ -41,6 +45,10 @@ check-counted f t v e = rw e (counted (bigTable t) f)
 pub rewrite-counted : (f t o : List ℕ) (v : Checked) → v ≡ checkedOf (rewriteAnswer f t o) → Counted v
 unfolding rewriteAnswer
 rewrite-counted f t o v e = rw e (counted (rewriteRoom f t o) f)
+
+-- ---- pad
+pub pad-small : (f o : List ℕ) (v : Padded) → v ≡ paddedOf (padAnswer f o) → Small (v .fault)
+pad-small f o v e = let k = demand-1-pad f o v (padOutput f o) record { answered = e; written = refl } in record { place = omega (arith, k .place); spot = omega (arith, k .spot) }
 
 -- ---- read
 told-of : (f : List ℕ) (r : ℕ) → r < 2 ^ 32 → (y : Reading) → readOf f r ≡ y → (g : Fault) → readingOf y ≡ kinds.Reading.Refused g → Small g

@@ -1,21 +1,24 @@
 -- Each call's promise, for each way through it. What the inner calls promise is cited here and in Places.
-use mathlib.Core.Path.{_≡_}
+use mathlib.Core.Path.{_≡_, _∙_, ap}
 use mathlib.Core.List.{List, _++_}
 use Prim.Native.Nat.{ℕ, _+_, _-_, _*_, _≤_, _<_}
 use lib.ListN.{length, drop, set}
 use lib.IntN.{ℤ}
 use Rattle.rules.specs.Calls.{checkAnswer, checkTable, rewriteAnswer, rewriteTable, rewriteOutput, readOf, fieldOf, writeVerdict, writeOutput}
+use Rattle.rules.specs.Padding.{padAnswer, padOutput}
 use Rattle.kinds.specs.declared.Sequence.{Sequence}
 use Rattle.kinds.specs.declared.Record.{Record}
 use Rattle.kinds.specs.declared.Checked.{Checked}
 use Rattle.kinds.specs.declared.Reading.{Reading}
 use Rattle.kinds.specs.declared.Written.{Written}
 use Rattle.kinds.specs.Values.{kindNumber, sequenceValue, meaningOf, checkedOf, readingOf, writtenOf}
-use Rattle.answers.specs.Answers.{touched, checkWords}
+use Rattle.padding.specs.declared.Padded.{Padded}
+use Rattle.padding.specs.Promise.{paddedOf}
+use Rattle.answers.specs.Answers.{touched, checkWords, paddedWords}
 use Rattle.answers.specs.Words.{readWords}
 use Rattle.answers.specs.Given.{given, sequenceGiven, writtenWords}
-use Rattle.answers.specs.Promise.{Checks, Rewrites, Reads, Finds, wordsVerdict, wordsOutput, Writes}
-use Rattle.export.proofs.AnswerLaws.{short-answer, untouched, long-touched, check-answer, field-none, field-some}
+use Rattle.answers.specs.Promise.{Checks, Rewrites, Pads, Reads, Finds, wordsVerdict, wordsOutput, Writes}
+use Rattle.export.proofs.AnswerLaws.{short-answer, long-answer, untouched, long-touched, check-answer, field-none, field-some}
 use Rattle.export.proofs.WordLaws.{read-answer}
 use Rattle.export.proofs.GivenLaws.{write-answer, write-left}
 
@@ -26,6 +29,9 @@ module _ (a : List ℕ) where
 
   pub short-rewrite : length a < 17 → (f t o : List ℕ) → Rewrites f t o a t o a
   short-rewrite h f t o = record { answer = short-answer 17 a h _; table = untouched 17 a h _ t; out = untouched 17 a h _ o }
+
+  pub short-pad : length a < 4 → (f o : List ℕ) → Pads f o a o a
+  short-pad h f o = record { answer = short-answer 4 a h _; out = untouched 4 a h _ o }
 
   pub short-field : length a < 2 → (f : List ℕ) (r c : ℕ) → Finds f r c a a
   short-field h f r c = record { answer = short-answer 2 a h _ }
@@ -45,6 +51,10 @@ long-check f t a h v p u q w e =
 pub long-rewrite : (f t o a : List ℕ) → 17 ≤ length a → (v : Checked) → v ≡ checkedOf (rewriteAnswer f t o) → (u : List ℕ) → u ≡ rewriteTable f t o
     → (p : List ℕ) → p ≡ rewriteOutput f t o → (w : List ℕ) → w ≡ checkWords v → Rewrites f t o a u p (w ++ drop 17 a)
 long-rewrite f t o a h v x u y p z w e = record { answer = check-answer a h v _ x w e; table = long-touched 17 a h u _ t y; out = long-touched 17 a h p _ o z }
+
+pub long-pad : (f o a : List ℕ) → 4 ≤ length a → (v : Padded) → v ≡ paddedOf (padAnswer f o) → (p : List ℕ) → p ≡ padOutput f o
+    → (w : List ℕ) → w ≡ paddedWords v → Pads f o a p (w ++ drop 4 a)
+long-pad f o a h v x p y w e = record { answer = long-answer 4 a h w _ (e ∙ ap paddedWords x); out = long-touched 4 a h p _ o y }
 
 pub long-read : (f : List ℕ) (r : ℕ) (a : List ℤ) → 32 ≤ length a → (v : Reading) → v ≡ readingOf (readOf f r) → (w : List ℤ) → w ≡ readWords v → Reads f r a (w ++ drop 32 a)
 long-read f r a h v p w e = record { answer = read-answer a h v _ p w e }

@@ -1,10 +1,11 @@
-// A fault and counts as words.
+// A fault, counts and a number of lines as words.
 use kinds::Checked;
 use kinds::Fault;
 use kinds::Written;
+use padding::Padded;
 ghost use mathlib.Core.Path.{_≡_};
 ghost use lib.ListN.{length};
-ghost use Rattle.answers.specs.Answers.{Small, Counted, faultWords, checkWords};
+ghost use Rattle.answers.specs.Answers.{Small, Counted, faultWords, checkWords, paddedWords};
 ghost use Rattle.answers.specs.Given.{writtenWords, Noted};
 
 // number, record, column.
@@ -36,6 +37,15 @@ pub(crate) fn put_checked(out: &mut [u32], v: Checked)
     let counts = v.counts;
     put_fault(&mut out[0..3], fault);
     put_counts(&mut out[3..17], &counts);
+}
+
+pub(crate) fn put_padded(out: &mut [u32], v: Padded)
+    requires { ⌜ (length (now out) ≡ 4) × Small (v .fault) ⌝ }
+    ensures { λ _. ⌜ now (out .exit) ≡ paddedWords v ⌝ }
+{
+    let fault = v.fault;
+    put_fault(&mut out[0..3], fault);
+    out[3] = v.lines;
 }
 
 pub(crate) fn put_written(out: &mut [u32], w: Written)

@@ -5,16 +5,18 @@ mod readings;
 mod words;
 
 use crate::counts::put_checked;
+use crate::counts::put_padded;
 use crate::counts::put_written;
 use crate::given::give_record;
 use crate::given::give_sequence;
 use crate::readings::put_reading;
+use padding::pad;
 use reading::field;
 use reading::read;
 use rewriting::rewrite;
 use walk::check;
 use writing::write;
-ghost use Rattle.answers.specs.Promise.{Checks, Rewrites, Reads, Finds, Writes};
+ghost use Rattle.answers.specs.Promise.{Checks, Rewrites, Pads, Reads, Finds, Writes};
 
 // number, record, column, and the fourteen counts.
 #[no_mangle]
@@ -38,6 +40,18 @@ pub extern "C" fn shelf_rewrite(file: &[u8], table: &mut [u32], out: &mut [u8], 
     }
     let v = rewrite(file, table, out);
     put_checked(&mut answer[0..17], v);
+}
+
+// number, record, column, and the number of lines.
+#[no_mangle]
+pub extern "C" fn shelf_pad(input: &[u8], out: &mut [u8], answer: &mut [u32])
+    ensures { λ _. ⌜ Pads (now (input .entry)) (now (out .entry)) (now (answer .entry)) (now (out .exit)) (now (answer .exit)) ⌝ }
+{
+    if answer.len() < 4 {
+        return;
+    }
+    let v = pad(input, out);
+    put_padded(&mut answer[0..4], v);
 }
 
 // Where a field starts in the file, and its width.

@@ -5,7 +5,7 @@ use crate::lent::BYTE;
 use crate::print::size;
 use crate::print::text;
 
-fn rewrite_file(path: &[u8], out: &mut [u8; 65536]) {
+pub(crate) fn rewrite_file(path: &[u8], out: &mut [u8; 65536]) {
     let mut space = io::large_buffer();
     let n = read_file(path, &mut space);
     let mut table = [0u32; 12000];

@@ -1,4 +1,6 @@
 // What is lent to a call, and how much of it the call has left as it was.
+ghost use Prim.Native.Nat.{_≤_};
+ghost use lib.ListN.{length};
 use crate::compare::one_if;
 use crate::print::size;
 use crate::print::text;
@@ -6,7 +8,7 @@ use crate::print::text;
 // Every word of a table before a call: no record has this number.
 pub(crate) const WORD: u32 = 7777777;
 
-// Every byte of an output before a call: no rewritten file has it.
+// Every byte of an output before a call: no rewritten file and no line padded here has it.
 pub(crate) const BYTE: u8 = 255;
 
 fn show_kept(kept: usize, all: usize) {
@@ -26,7 +28,9 @@ fn count_words(table: &[u32]) -> usize {
     n
 }
 
-fn count_bytes(out: &[u8]) -> usize {
+fn count_bytes(out: &[u8]) -> usize
+    ensures { λ r. ⌜ r ≤ length (now (out .entry)) ⌝ }
+{
     let mut n: usize = 0;
     let mut i: usize = 0;
     while i < out.len() {
@@ -42,4 +46,11 @@ pub(crate) fn show_kept_words(table: &[u32]) {
 
 pub(crate) fn show_kept_bytes(out: &[u8]) {
     show_kept(count_bytes(out), out.len());
+}
+
+pub(crate) fn show_changed_bytes(out: &[u8]) {
+    let kept = count_bytes(out);
+    size(out.len() - kept);
+    text(b" changed, ");
+    show_kept(kept, out.len());
 }

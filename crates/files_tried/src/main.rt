@@ -1,9 +1,10 @@
-// Runs check and rewrite over the whole files that its arguments name; then an accepted and a refused one with lengths that are too short; then compares files as rewritten.
+// Runs check and rewrite over the whole files that its arguments name; then an accepted and a refused one with lengths that are too short; then compares files as rewritten; then pads inputs as editors leave them, and runs check and rewrite over the padded lines.
 mod compare;
 mod dress;
 mod input;
 mod lengths;
 mod lent;
+mod padded;
 mod print;
 mod table;
 mod whole;
@@ -11,6 +12,8 @@ mod whole;
 use dress::compare_files;
 use input::read_file;
 use lengths::try_lengths;
+use padded::compare_inputs;
+use padded::try_inputs;
 use whole::try_whole;
 
 // A file of the data: 262,144 bytes have room for 3,236 records.
@@ -42,4 +45,6 @@ fn main() {
     try_lengths(b"fault_09_station_0.bfile");
     compare_files(b"dress_house.bfile", b"dress_other.bfile");
     compare_files(b"dress_house.bfile", b"dress_other_meaning.bfile");
+    try_inputs();
+    compare_inputs();
 }

@@ -18,7 +18,7 @@ pub(crate) fn word(n: u32) {
     number(n as u64);
 }
 
-fn show_fault(f: Fault) {
+pub(crate) fn show_fault(f: Fault) {
     text(b"fault ");
     word(f.number);
     text(b" record ");

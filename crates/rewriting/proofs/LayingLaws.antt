@@ -4,8 +4,8 @@ use mathlib.Core.Bool.{true}
 use mathlib.Core.List.{List, [], _∷_, _++_, append-assoc, append-nil, map}
 use Prim.Native.Nat.{ℕ, _+_, _-_, _*_, _≤_, _<_}
 use native.Mathlib.Omega.{arith}
-use lib.ListN.{length, length-append, length-drop, take, drop, take-append-drop}
-use lib.Seq.{take-at, drop-at, drop-drop, length-take-le}
+use lib.ListN.{length, take, drop, take-append-drop}
+use lib.Seq.{drop-drop}
 use lib.IntN.{pos}
 use Rattle.rules.specs.Tests.{_&_, _≤?_}
 use Rattle.rules.specs.Items.{num}
@@ -15,7 +15,7 @@ use Rattle.rules.specs.Files.{lineAt, begun, linesFrom, lines, join, meanings, 
 use Rattle.rules.specs.Chapter4.{chapter4}
 use Rattle.rules.proofs.Truth.{both, to≤}
 use Rattle.rules.proofs.RecordLaws.{line-meant, line-long, style-length}
-use Rattle.rules.proofs.FileLaws.{records, lines-more, lines-none, length-take-most, formed-whole}
+use Rattle.rules.proofs.FileLaws.{records, lines-more, lines-none, length-take-most, laid-take, laid-drop, laid-size, formed-whole}
 use Rattle.rules.proofs.Chapter4Laws.{sound}
 
 pub record Laying (f o₀ : List ℕ) (n : ℕ) (o : List ℕ) (i : ℕ) : Type 0 where
@@ -78,23 +78,29 @@ module _ (f o₀ : List ℕ) (n : ℕ) (o : List ℕ) (i : ℕ) (g : Laying f o�
     pub lay-next : (s : List ℕ) → s ≡ lineOf chapter4 (num (pos (10 * (i + 1)))) (meaning chapter4 l)
         → Laying f o₀ n (take (81 * i) o ++ (s ++ drop (81 * i + 81 - 81 * i) (drop (81 * i) o))) (i + 1)
     lay-next s es =
-        rw (z)
+        rw width
         record {
           whole = g .whole;
           room = g .room;
-          size = length-append (take (81 * i) o) _ ∙ ap₂ _+_ front (length-append s _ ∙ ap₂ _+_ long (length-drop 81 (drop (81 * i) o) ∙ ap (λ k. k - 81) (length-drop (81 * i) o))) ∙ omega (arith, g .size, g .room, g .whole);
+          size = laid-size o (81 * i) s long enough ∙ g .size;
           most = omega arith;
           few = g .few;
           form = parts .1;
-          laid = (ap (λ (t : List ℕ). t ++ join (styles chapter4 (i + 1 + 1) (map (meaning chapter4) (linesFrom f (n - (i + 1)) (i + 1))))) begin ∙ append-assoc (take (81 * i) o) s _) ∙ more;
+          laid = ap (λ (t : List ℕ). t ++ rest-styled) begin ∙ append-assoc (take (81 * i) o) s rest-styled ∙ more;
           rest = end;
         }
       where
-        z : 81 * i + 81 - 81 * i ≡ 81
-        z = omega arith
+        width : 81 * i + 81 - 81 * i ≡ 81
+        width = omega arith
 
-        front : length (take (81 * i) o) ≡ 81 * i
-        front = length-take-le (81 * i) o (omega (arith, g .size, g .room, g .whole))
+        next : 81 * (i + 1) ≡ 81 * i + 81
+        next = omega arith
+
+        enough : 81 * i + 81 ≤ length o
+        enough = omega (arith, g .size, g .room, g .whole)
+
+        rest-styled : List ℕ
+        rest-styled = join (styles chapter4 (i + 1 + 1) (map (meaning chapter4) (linesFrom f (n - (i + 1)) (i + 1))))
 
         styled : s ≡ style chapter4 (i + 1) (meaning chapter4 (lineAt f i))
         styled = es ∙ (unfold style in ap (λ (t : List ℕ). lineOf chapter4 (num (pos (10 * (i + 1)))) (meaning chapter4 t)) el)
@@ -102,22 +108,16 @@ module _ (f o₀ : List ℕ) (n : ℕ) (o : List ℕ) (i : ℕ) (g : Laying f o�
         long : length s ≡ 81
         long = ap length styled ∙ style-length chapter4 sound (i + 1) (meaning chapter4 (lineAt f i)) (line-meant chapter4 (lineAt f i) (both (parts .0) .1)) (omega arith) lay-few
 
-        both-long : length (take (81 * i) o ++ s) ≡ 81 * (i + 1)
-        both-long = length-append (take (81 * i) o) s ∙ ap₂ _+_ front long ∙ omega arith
-
         begin : take (81 * (i + 1)) (take (81 * i) o ++ (s ++ drop 81 (drop (81 * i) o))) ≡ take (81 * i) o ++ s
-        begin = rw (← append-assoc (take (81 * i) o) s (drop 81 (drop (81 * i) o))) (take-at (take (81 * i) o ++ s) _ (81 * (i + 1)) both-long)
-
-        next : 81 * i + 81 ≡ 81 * (i + 1)
-        next = omega arith
+        begin = ap (λ k. take k (take (81 * i) o ++ (s ++ drop 81 (drop (81 * i) o)))) next ∙ laid-take o (81 * i) s long enough
 
         end : drop (81 * (i + 1)) (take (81 * i) o ++ (s ++ drop 81 (drop (81 * i) o))) ≡ drop (81 * (i + 1)) o₀
         end =
-            rw (← append-assoc (take (81 * i) o) s (drop 81 (drop (81 * i) o)))
-            (drop-at (take (81 * i) o ++ s) _ (81 * (i + 1)) both-long ∙ ap (drop 81) (g .rest) ∙ drop-drop 81 (81 * i) o₀ ∙ ap (λ k. drop k o₀) next)
+            ap (λ k. drop k (take (81 * i) o ++ (s ++ drop 81 (drop (81 * i) o)))) next ∙ laid-drop o (81 * i) s long enough
+            ∙ sym (drop-drop 81 (81 * i) o) ∙ ap (drop 81) (g .rest) ∙ drop-drop 81 (81 * i) o₀ ∙ ap (λ k. drop k o₀) (sym next)
 
-        more : take (81 * i) o ++ (s ++ join (styles chapter4 (i + 1 + 1) (map (meaning chapter4) (linesFrom f (n - (i + 1)) (i + 1))))) ≡ rewritten chapter4 f
-        more = ap (λ (t : List ℕ). take (81 * i) o ++ (t ++ join (styles chapter4 (i + 1 + 1) (map (meaning chapter4) (linesFrom f (n - (i + 1)) (i + 1)))))) styled ∙ (unfold styles join in (rw (lines-more f n i h) at (g .laid)))
+        more : take (81 * i) o ++ (s ++ rest-styled) ≡ rewritten chapter4 f
+        more = ap (λ (t : List ℕ). take (81 * i) o ++ (t ++ rest-styled)) styled ∙ (unfold styles join in (rw (lines-more f n i h) at (g .laid)))
 
   pub lay-done : n ≤ i → o ≡ rewritten chapter4 f ++ drop (length f) o₀
   lay-done h =

@@ -6,7 +6,7 @@ use mathlib.Core.List.{List, [], _∷_, _++_, append-assoc, map}
 use Prim.Native.Nat.{ℕ, zero, suc, _+_, _-_, _*_, _/_, _≤_, _<_}
 use native.Mathlib.Omega.{arith}
 use lib.ListN.{length, length-append, length-map, length-drop, take, drop, getD}
-use lib.Seq.{take-at, drop-at}
+use lib.Seq.{take-at, drop-at, drop-drop, length-take-le}
 use lib.IntN.{pos}
 use Rattle.rules.specs.Tests.{all, _&_, _≤?_, _=?_}
 use Rattle.rules.specs.Items.{num, valueOf}
@@ -42,7 +42,7 @@ final false n r c = refl
 unfoldable pub isLine : List ℕ → Bool
 isLine l = length l =? 81
 
-length-join : (ls : List (List ℕ)) → all isLine ls ≡ true → length (join ls) ≡ 81 * length ls
+pub length-join : (ls : List (List ℕ)) → all isLine ls ≡ true → length (join ls) ≡ 81 * length ls
 unfolding join all isLine
 length-join [] h = refl
 length-join (l ∷ ls) h = length-append l (join ls) ∙ omega (arith, to≡ (both h .0), length-join ls (both h .1))
@@ -114,6 +114,28 @@ length-take-least (suc k) (suc n) (b ∷ l) h = let j : k < length l = length-ta
 pub reaches : (f : List ℕ) (i : ℕ) → 80 < length (lineAt f i) → 80 < length f - 81 * i
 unfolding lineAt
 reaches f i h = subst (λ n. 80 < n) (length-drop (81 * i) f) (length-take-least 80 81 (drop (81 * i) f) h)
+
+-- a line laid into a part of 81 bytes from place a on: what stands before it and behind it stays
+module _ (o : List ℕ) (a : ℕ) (s : List ℕ) (long : length s ≡ 81) (room : a + 81 ≤ length o) where
+  front : length (take a o) ≡ a
+  front = length-take-le a o (omega arith)
+
+  both-long : length (take a o ++ s) ≡ a + 81
+  both-long = length-append (take a o) s ∙ ap₂ _+_ front long
+
+  pub laid-take : take (a + 81) (take a o ++ (s ++ drop 81 (drop a o))) ≡ take a o ++ s
+  laid-take = ap (take (a + 81)) (sym (append-assoc (take a o) s (drop 81 (drop a o)))) ∙ take-at (take a o ++ s) (drop 81 (drop a o)) (a + 81) both-long
+
+  pub laid-drop : drop (a + 81) (take a o ++ (s ++ drop 81 (drop a o))) ≡ drop (a + 81) o
+  laid-drop =
+      ap (drop (a + 81)) (sym (append-assoc (take a o) s (drop 81 (drop a o)))) ∙ drop-at (take a o ++ s) (drop 81 (drop a o)) (a + 81) both-long
+      ∙ drop-drop 81 a o
+
+  pub laid-size : length (take a o ++ (s ++ drop 81 (drop a o))) ≡ length o
+  laid-size =
+      length-append (take a o) (s ++ drop 81 (drop a o))
+      ∙ ap₂ _+_ front (length-append s (drop 81 (drop a o)) ∙ ap₂ _+_ long (length-drop 81 (drop a o) ∙ ap (λ n. n - 81) (length-drop a o)))
+      ∙ omega arith
 
 module _ {S : Type 0} (E : Edition S) where
   -- ---- acceptance splits into a test of the lines and tests of the meaning

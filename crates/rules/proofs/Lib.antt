@@ -10,6 +10,7 @@ pub mod RecordLaws  -- one record
 pub mod FileLaws  -- a file, and demand 3 for any edition
 pub mod FaultLaws  -- the first fault of a record
 pub mod FileFaults  -- the first fault of a file, and demand 2 for any edition
+pub mod PaddingLaws  -- the padding step: one reading, the first fault, what is padded
 pub mod ReferenceLaws  -- references and words
 pub mod TableLaws  -- the table as it is filled, and the counts
 pub mod Chapter4Laws  -- Chapter 4 is sound, and its order is the paper's table
@@ -24,3 +25,4 @@ pub mod Edges  -- the edges of every field
 pub mod Follows  -- what may follow what, at every place
 pub mod Limits  -- the limits of every call, and what a refusal leaves
 pub mod CallSamples  -- every call by computation
+pub mod PaddingSamples  -- the padding step by computation

@@ -1,4 +1,4 @@
--- 01 as definitions, to be read in this order.
+-- 01 as definitions, and what the requests of 02 add, to be read in this order.
 pub mod Tests  -- tests
 pub mod Members  -- members of a list
 pub mod Characters  -- sets of characters
@@ -10,6 +10,7 @@ pub mod Forms  -- fields and codes said without tests
 pub mod Layouts  -- the field tables
 pub mod Records  -- one record: judged, meant, written
 pub mod Files  -- the lines of a file, the verdict, the meaning, house style
+pub mod Padding  -- 02, T-01: trimmed lines padded
 pub mod Order  -- what may follow what
 pub mod References  -- cross references, table words, counts
 pub mod Chapter4  -- the edition put together

@@ -1,5 +1,5 @@
-//! Nanoseconds a record of check and rewrite: the library, the plain and the
-//! tuned implementation and memcpy, in turn on the same files.
+//! Nanoseconds a record of check, rewrite and pad: the library, the plain and
+//! the tuned implementation and memcpy, in turn on the same files.
 //!
 //! ```text
 //! bench                      every file
@@ -7,9 +7,11 @@
 //! bench --times N JOB NAME   one job on one file N times and no clock, for a
 //!                            profiler: bench --times 20 'check tuned' mixed
 //! ```
+//!
+//! memcpy copies as many bytes as a call puts into its output.
 
-use shelf::calls::{FileCalls, CHECK_WORDS};
-use shelf::generate::{accepted, accepted_mostly, Mostly};
+use shelf::calls::{Calls, FileCalls, CHECK_WORDS};
+use shelf::generate::{accepted, accepted_mostly, stripped, Mostly};
 use shelf::library::{Library, IS_STANDIN};
 use shelf::plain::{self, Plain, LAST_RECORD, LINE, TABLE_WORDS};
 use shelf::tuned::Tuned;
@@ -25,9 +27,31 @@ const ROUNDS: usize = 25;
 
 type Make = fn() -> Vec<u8>;
 
+/// Jobs and the files that each of them is timed on.
+struct Table {
+    files: &'static [(&'static str, Make)],
+    /// The first is memcpy.
+    jobs: &'static [(&'static str, Job)],
+    /// Whether the times are to be held against memcpy's.
+    in_memcpys: bool,
+}
+
+const TABLES: [Table; 2] = [
+    Table {
+        files: &ACCEPTED,
+        jobs: &JUDGING,
+        in_memcpys: false,
+    },
+    Table {
+        files: &LINES,
+        jobs: &PADDING,
+        in_memcpys: true,
+    },
+];
+
 /// All are accepted. Where nothing is said the dress is mixed: numbers padded
 /// in every way, and so on.
-const FILES: [(&str, Make); 13] = [
+const ACCEPTED: [(&str, Make); 13] = [
     ("mixed", || accepted(1, MOST)),
     ("mixed, another", || accepted(2, MOST)),
     ("mixed, house", || house(accepted(1, MOST))),
@@ -41,6 +65,13 @@ const FILES: [(&str, Make); 13] = [
     ("*80* *86*, house", || house(of_kind(Mostly::Points))),
     ("*70* *72*", || of_kind(Mostly::Equipment)),
     ("*70* *72*, house", || house(of_kind(Mostly::Equipment))),
+];
+
+/// The mixed file as it stands and as editors leave it.
+const LINES: [(&str, Make); 3] = [
+    ("full", || accepted(1, MOST)),
+    ("trimmed, LF", || stripped(&accepted(1, MOST), "\n")),
+    ("trimmed, CR LF", || stripped(&accepted(1, MOST), "\r\n")),
 ];
 
 fn of_kind(mostly: Mostly) -> Vec<u8> {
@@ -58,9 +89,10 @@ enum Job {
     Memcpy,
     Check(&'static dyn FileCalls),
     Rewrite(&'static dyn FileCalls),
+    Pad(&'static dyn Calls),
 }
 
-const JOBS: [(&str, Job); 7] = [
+const JUDGING: [(&str, Job); 7] = [
     ("memcpy", Job::Memcpy),
     ("check library", Job::Check(&Library)),
     ("check plain", Job::Check(&Plain)),
@@ -69,6 +101,40 @@ const JOBS: [(&str, Job); 7] = [
     ("rewrite plain", Job::Rewrite(&Plain)),
     ("rewrite tuned", Job::Rewrite(&Tuned)),
 ];
+
+const PADDING: [(&str, Job); 3] = [
+    ("memcpy", Job::Memcpy),
+    ("pad library", Job::Pad(&Library)),
+    ("pad plain", Job::Pad(&Plain)),
+];
+
+/// What is given to a call.
+struct Given {
+    input: Vec<u8>,
+    /// What the input pads to, if that is not the input itself.
+    padded: Option<Vec<u8>>,
+}
+
+impl Given {
+    fn new(input: Vec<u8>) -> Given {
+        let mut padded = vec![0; LINE * MOST];
+        let lines = plain::pad(&input, &mut padded).lines as usize;
+        padded.truncate(LINE * lines);
+        Given {
+            padded: Some(padded).filter(|padded| *padded != input),
+            input,
+        }
+    }
+
+    /// The whole lines, which memcpy copies.
+    fn file(&self) -> &[u8] {
+        self.padded.as_ref().unwrap_or(&self.input)
+    }
+
+    fn records(&self) -> usize {
+        self.file().len() / LINE
+    }
+}
 
 /// What is lent to a call.
 #[derive(PartialEq, Eq)]
@@ -79,21 +145,23 @@ struct Lent {
 }
 
 impl Lent {
-    fn new(file: &[u8]) -> Lent {
+    fn new(given: &Given) -> Lent {
         Lent {
             table: vec![0; TABLE_WORDS],
-            out: vec![0; file.len()],
+            out: vec![0; given.file().len()],
             answer: [0; CHECK_WORDS],
         }
     }
 
-    fn run(&mut self, job: Job, file: &[u8], times: usize) {
+    fn run(&mut self, job: Job, given: &Given, times: usize) {
         let Lent { table, out, answer } = self;
         for _ in 0..times {
+            let input = black_box(&given.input);
             match job {
-                Job::Memcpy => out.copy_from_slice(black_box(file)),
-                Job::Check(side) => side.check(black_box(file), table, answer),
-                Job::Rewrite(side) => side.rewrite(black_box(file), table, out, answer),
+                Job::Memcpy => out.copy_from_slice(black_box(given.file())),
+                Job::Check(side) => side.check(input, table, answer),
+                Job::Rewrite(side) => side.rewrite(input, table, out, answer),
+                Job::Pad(side) => side.pad(input, out, answer),
             }
             black_box(&out);
             black_box(&answer);
@@ -101,49 +169,45 @@ impl Lent {
     }
 }
 
-/// A time says nothing of a call that answers wrongly: every job of a file
-/// must leave what the plain implementation leaves, and accept.
-fn agree(file: &[u8]) -> bool {
-    let mut check = Lent::new(file);
-    check.run(Job::Check(&Plain), file, 1);
-    let mut rewrite = Lent::new(file);
-    rewrite.run(Job::Rewrite(&Plain), file, 1);
-    check.answer[0] == 0
-        && JOBS.iter().all(|&(_, job)| {
-            let mut lent = Lent::new(file);
-            lent.run(job, file, 1);
-            match job {
-                Job::Memcpy => lent.out == file,
-                Job::Check(_) => lent == check,
-                Job::Rewrite(_) => lent == rewrite,
-            }
-        })
+/// A time says nothing of a call that answers wrongly: a job must leave what
+/// the plain implementation leaves, and accept.
+fn agrees(job: Job, given: &Given) -> bool {
+    let left = |job| {
+        let mut lent = Lent::new(given);
+        lent.run(job, given, 1);
+        lent
+    };
+    let lent = left(job);
+    let plain = match job {
+        Job::Memcpy => return lent.out == given.file(),
+        Job::Check(_) => Job::Check(&Plain),
+        Job::Rewrite(_) => Job::Rewrite(&Plain),
+        Job::Pad(_) => Job::Pad(&Plain),
+    };
+    lent.answer[0] == 0 && lent == left(plain)
 }
 
 /// A file with the best time of each job in nanoseconds a record.
 struct Timed {
     name: &'static str,
-    file: Vec<u8>,
+    given: Given,
     /// The same in every round: memory that is new is slow to write.
     lent: Lent,
-    best: [f64; JOBS.len()],
+    jobs: &'static [(&'static str, Job)],
+    best: Vec<f64>,
 }
 
 impl Timed {
-    fn records(&self) -> usize {
-        self.file.len() / LINE
-    }
-
     /// Every job once, in turn. Short files are judged many times in a turn,
     /// so that the clock can see it.
     fn turn(&mut self) {
-        // The first job is not to pay for what the last file left in the cache.
-        self.lent.run(Job::Memcpy, &self.file, 1);
-        let times = (MOST / self.records()).max(1);
-        let records = (times * self.records()) as f64;
-        for (&(_, job), least) in JOBS.iter().zip(&mut self.best) {
+        let times = (MOST / self.given.records()).max(1);
+        let records = (times * self.given.records()) as f64;
+        for (&(_, job), least) in self.jobs.iter().zip(&mut self.best) {
+            // No job is to pay for what another left in the cache.
+            self.lent.run(job, &self.given, 1);
             let start = Instant::now();
-            self.lent.run(job, &self.file, times);
+            self.lent.run(job, &self.given, times);
             *least = least.min(start.elapsed().as_nanos() as f64 / records);
         }
     }
@@ -152,27 +216,32 @@ impl Timed {
 /// The files whose names begin with one of the words, or all of them. Jobs
 /// and files take turns in every round, so that what disturbs the machine for
 /// a while disturbs them alike.
-fn measure(words: &[String]) -> Result<Vec<Timed>, String> {
-    let mut all = Vec::new();
-    for (name, make) in FILES {
-        if words.is_empty() || words.iter().any(|word| name.starts_with(word)) {
-            let file = make();
-            if !agree(&file) {
+fn measure(words: &[String]) -> Result<[Vec<Timed>; TABLES.len()], String> {
+    let mut all = [const { Vec::new() }; TABLES.len()];
+    for (table, timed) in TABLES.iter().zip(&mut all) {
+        let jobs = table.jobs;
+        for &(name, make) in table.files {
+            if !words.is_empty() && !words.iter().any(|word| name.starts_with(word)) {
+                continue;
+            }
+            let given = Given::new(make());
+            if !jobs.iter().all(|&(_, job)| agrees(job, &given)) {
                 return Err(format!("{name}: the implementations differ, or refuse it"));
             }
-            all.push(Timed {
+            timed.push(Timed {
                 name,
-                lent: Lent::new(&file),
-                file,
-                best: [f64::MAX; JOBS.len()],
+                lent: Lent::new(&given),
+                given,
+                jobs,
+                best: vec![f64::MAX; jobs.len()],
             });
         }
     }
-    if all.is_empty() {
+    if all.iter().all(Vec::is_empty) {
         return Err(format!("no file has a name like {}", words.join(", ")));
     }
     for _ in 0..ROUNDS {
-        all.iter_mut().for_each(Timed::turn);
+        all.iter_mut().flatten().for_each(Timed::turn);
     }
     Ok(all)
 }
@@ -182,31 +251,46 @@ fn print_times(words: &[String]) -> Result<(), String> {
     if IS_STANDIN {
         println!("The library is the stand-in: its times are the plain implementation's.");
     }
-    println!("ns a record, best of {ROUNDS} rounds");
-    print!("{:<18}{:>8}", "file", "records");
-    for (name, _) in JOBS {
-        print!("{name:>17}");
-    }
-    println!();
-    for timed in all {
-        print!("{:<18}{:>8}", timed.name, timed.records());
-        for nanoseconds in timed.best {
-            print!("{nanoseconds:>17.1}");
+    println!("ns a record, best of {ROUNDS} rounds; behind an x how many times memcpy's");
+    for (table, rows) in TABLES.iter().zip(&all) {
+        if !rows.is_empty() {
+            print_rows(table, rows);
         }
-        println!();
     }
     Ok(())
 }
 
+fn print_rows(table: &Table, rows: &[Timed]) {
+    print!("{:<18}{:>8}", "file", "records");
+    for (name, _) in table.jobs {
+        print!("{name:>17}");
+    }
+    println!();
+    for timed in rows {
+        print!("{:<18}{:>8}", timed.name, timed.given.records());
+        for nanoseconds in &timed.best {
+            if table.in_memcpys {
+                print!("{nanoseconds:>10.1} x{:>5.2}", nanoseconds / timed.best[0]);
+            } else {
+                print!("{nanoseconds:>17.1}");
+            }
+        }
+        println!();
+    }
+}
+
 fn profile(times: &str, job: &str, file: &str) -> Result<(), String> {
     let times = times.parse().map_err(|_| format!("no number: {times}"))?;
-    let job = JOBS.iter().find(|(name, _)| *name == job);
-    let (_, job) = job.ok_or("no such job")?;
-    let file = FILES.iter().find(|(name, _)| *name == file);
-    let (_, make) = file.ok_or("no such file")?;
-    let file = make();
-    Lent::new(&file).run(*job, &file, times);
-    println!("{} records", times * (file.len() / LINE));
+    let mut files = TABLES
+        .iter()
+        .flat_map(|table| table.files.iter().map(move |named| (table, named)));
+    let found = files.find(|(_, (name, _))| *name == file);
+    let (table, (_, make)) = found.ok_or("no such file")?;
+    let job = table.jobs.iter().find(|(name, _)| *name == job);
+    let (_, job) = job.ok_or("no such job on that file")?;
+    let given = Given::new(make());
+    Lent::new(&given).run(*job, &given, times);
+    println!("{} records", times * given.records());
     Ok(())
 }
 

@@ -1,9 +1,9 @@
 //! The plain shelf in the word form of the library's header.
 
-use super::{check, field, read, rewrite, write, Checked, Fault, LINE};
+use super::{check, field, pad, read, rewrite, write, Checked, Fault, LINE};
 use crate::calls::{
     Calls, FileCalls, CHECK_WORDS, FIELD_WORDS, FIRST_GIVEN_VALUE, FIRST_VALUE_WORD, KIND_WORD,
-    NO_KIND, NO_SEQUENCE, READ_WORDS, SEQUENCE_WORD, WRITE_WORDS,
+    NO_KIND, NO_SEQUENCE, PAD_WORDS, READ_WORDS, SEQUENCE_WORD, WRITE_WORDS,
 };
 
 /// The plain implementation behind the interface it shares with the library.
@@ -69,6 +69,14 @@ impl Calls for Plain {
             },
         };
         answer.copy_from_slice(&fault_words(&fault));
+    }
+
+    fn pad(&self, input: &[u8], out: &mut [u8], answer: &mut [u32]) {
+        if let Some(answer) = answer.get_mut(..PAD_WORDS) {
+            let padded = pad(input, out);
+            let [number, record, column] = fault_words(&padded.fault);
+            answer.copy_from_slice(&[number, record, column, padded.lines]);
+        }
     }
 }
 

@@ -31,7 +31,7 @@ pub fn specimens() -> Vec<Specimen> {
     all
 }
 
-fn all_kinds() -> Vec<u8> {
+pub fn all_kinds() -> Vec<u8> {
     let mut lines = observations();
     lines.extend(equipment_and_marks());
     numbered(lines).concat()

@@ -6,8 +6,10 @@
 mod check;
 mod field;
 mod files;
+mod inputs;
 mod lent;
 mod limits;
+mod pad;
 mod read;
 mod rewrite;
 mod sides;
@@ -28,6 +30,14 @@ mod least {
     pub const WRITE_WORDS: u64 = 100_000;
     pub const WRITE_TEXTS: u64 = 220_000;
     pub const WRITE_MIXED: u64 = 300_000;
+    pub const PAD_ENDS: u64 = 230_000;
+    pub const PAD_LENGTHS: u64 = 440_000;
+    pub const PAD_DISTANCES: u64 = 170_000;
+    pub const PAD_STRINGS: u64 = 87_000;
+    pub const PAD_WINDOWS: u64 = 250_000;
+    pub const PAD_PUT_IN: u64 = 600_000;
+    pub const PAD_CUT: u64 = 640_000;
+    pub const PAD_RANDOM: u64 = 340_000;
 
     /// Check, rewrite and read each try these families.
     const ALL: u64 = 3 * (EVERY_BYTE + FILLED + ANGLES + TWO_BYTES + DAMAGED + CUT + ORDER)
@@ -35,6 +45,15 @@ mod least {
         + FIELDS
         + WRITE_WORDS
         + WRITE_TEXTS
-        + WRITE_MIXED;
-    const _: () = assert!(ALL > 3_000_000);
+        + WRITE_MIXED
+        + PAD;
+    const PAD: u64 = PAD_ENDS
+        + PAD_LENGTHS
+        + PAD_DISTANCES
+        + PAD_STRINGS
+        + PAD_WINDOWS
+        + PAD_PUT_IN
+        + PAD_CUT
+        + PAD_RANDOM;
+    const _: () = assert!(ALL > 4_000_000 && PAD > 1_000_000);
 }

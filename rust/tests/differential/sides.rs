@@ -1,7 +1,9 @@
 //! The implementations, given the same and compared.
 
 use crate::files::Family;
-use shelf::calls::{Calls, FileCalls, CHECK_WORDS, FIELD_WORDS, READ_WORDS, WRITE_WORDS};
+use shelf::calls::{
+    Calls, FileCalls, CHECK_WORDS, FIELD_WORDS, PAD_WORDS, READ_WORDS, WRITE_WORDS,
+};
 use shelf::library::Library;
 use shelf::plain::layout::{kind_of, KINDS};
 use shelf::plain::{Plain, LINE, TABLE_WORDS};
@@ -171,6 +173,32 @@ impl Sides {
         });
         self.places[number as usize][kind][column as usize] += 1;
         number
+    }
+
+    /// Pad with so many bytes of output and words of an answer. Gives the
+    /// first words of the answer, if there was room for them.
+    pub fn pad_lent(&mut self, input: &[u8], room: usize, answers: usize) -> [u32; PAD_WORDS] {
+        let mark = self.mark();
+        let mut given = [[mark; PAD_WORDS + BEYOND]; 2];
+        for side in 0..2 {
+            let out = renewed(&mut self.outs[side], room, mark as u8);
+            OF_RECORDS[side].pad(input, out, &mut given[side][..answers]);
+        }
+        let about = || format!("pad, output of {room}, answer of {answers} words");
+        same(input, &about, "answer", &given);
+        same(input, &about, "output", &self.outs[..2]);
+        let [number, record, column, lines, ..] = given[1];
+        [number, record, column, lines]
+    }
+
+    /// Pad with all that it needs and a byte and a word more. Gives the
+    /// padded file, empty on a refusal.
+    pub fn pad(&mut self, input: &[u8]) -> &[u8] {
+        let ends = input.iter().filter(|&&byte| byte == b'\n').count();
+        let room = LINE * (ends + 1) + 1;
+        let [number, _, column, lines] = self.pad_lent(input, room, PAD_WORDS + 1);
+        self.places[number as usize][NO_KIND][column as usize] += 1;
+        &self.outs[1][..LINE * lines as usize]
     }
 
     /// A number for each case, to fill what is lent with: what a call leaves

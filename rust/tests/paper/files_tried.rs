@@ -3,30 +3,39 @@
 //! asked.
 
 use crate::sample::{columns, house, verdict, ACCEPTED};
-use shelf::plain::{check, TABLE_WORDS};
-use shelf::specimens::{page, specimens};
+use shelf::files_tried::{self, folder};
+use shelf::plain::{check, pad, LINE, TABLE_WORDS};
+use shelf::specimens::{inputs, page, specimens};
+use std::collections::BTreeSet;
 use std::fs;
-use std::path::PathBuf;
-
-fn folder() -> PathBuf {
-    PathBuf::from(env!("CARGO_MANIFEST_DIR")).join("../crates/files_tried")
-}
 
 fn data(name: &str) -> Vec<u8> {
     fs::read(folder().join("data").join(name)).unwrap()
 }
 
-/// The rows of the table: name, fault number, record, column.
-fn rows() -> Vec<(String, (u32, u64, u64))> {
-    let table = String::from_utf8(data("README.md")).unwrap();
-    let rows = table.lines().filter(|line| line.starts_with("| `"));
+/// The cells of a table's rows, the file's name first. The page has two
+/// tables, the whole files' and the padding step's.
+fn table(number: usize) -> Vec<Vec<String>> {
+    let page = String::from_utf8(data("README.md")).unwrap();
+    let part = page.split("\n## ").nth(number).unwrap();
+    let rows = part.lines().filter(|line| line.starts_with("| `"));
     rows.map(|row| {
-        let cells: Vec<&str> = row.split('|').map(str::trim).collect();
-        let number = |cell: usize| cells[cell].parse().unwrap();
-        let name = cells[1].trim_matches('`').to_string();
-        (name, (number(2) as u32, number(3), number(4)))
+        let cells = row.trim_matches('|').split('|');
+        cells
+            .map(|cell| cell.trim().trim_matches('`').to_string())
+            .collect()
     })
     .collect()
+}
+
+/// The rows of the table of whole files: name, fault number, record, column.
+fn rows() -> Vec<(String, (u32, u64, u64))> {
+    let row = |cells: Vec<String>| {
+        let number = |cell: usize| cells[cell].parse().unwrap();
+        let verdict = (number(1) as u32, number(2), number(3));
+        (cells[0].clone(), verdict)
+    };
+    table(0).into_iter().map(row).collect()
 }
 
 #[test]
@@ -44,14 +53,41 @@ fn the_table_has_every_file_in_the_order_of_the_arguments() {
     let arguments = fs::read_to_string(folder().join("args")).unwrap();
     assert_eq!(arguments.lines().collect::<Vec<_>>(), names);
     let entries = fs::read_dir(folder().join("data")).unwrap();
-    let mut files: Vec<String> = entries
+    let files: BTreeSet<String> = entries
         .map(|entry| entry.unwrap().file_name().into_string().unwrap())
         .filter(|name| name != "README.md")
         .collect();
-    files.sort();
-    let mut sorted = names.clone();
-    sorted.sort();
-    assert_eq!(files, sorted);
+    let padded = table(1).into_iter().map(|cells| cells[0].clone());
+    assert_eq!(files, names.into_iter().chain(padded).collect());
+}
+
+/// The answer of the padding step, then check's verdict on the padded lines.
+#[test]
+fn the_table_of_inputs_says_what_is_found() {
+    let rows = table(1);
+    assert_eq!(rows.len(), 11);
+    for cells in rows {
+        let input = data(&cells[0]);
+        let mut out = [b'#'; 34 * LINE];
+        let padded = pad(&input, &mut out);
+        let (lines, rest) = out.split_at(padded.lines as usize * LINE);
+        assert!(rest.iter().all(|&byte| byte == b'#'), "{cells:?}");
+        let fault = padded.fault;
+        let answer = [
+            u64::from(fault.number),
+            fault.record,
+            fault.column,
+            padded.lines.into(),
+        ];
+        assert_eq!(cells[1..5], answer.map(|n| n.to_string()), "{cells:?}");
+        if fault.number == 0 {
+            let (number, record, column) = verdict(lines);
+            let found = [number.into(), record, column].map(|n: u64| n.to_string());
+            assert_eq!(cells[5..8], found, "{cells:?}");
+        } else {
+            assert_eq!(cells[5..8], ["-"; 3], "{cells:?}");
+        }
+    }
 }
 
 #[test]
@@ -60,7 +96,17 @@ fn the_files_are_those_that_are_made() {
     for one in &all {
         assert_eq!(data(&one.file_name()), one.file, "{}", one.name);
     }
-    assert_eq!(data("README.md"), page(&all).into_bytes());
+    let inputs = inputs();
+    for one in &inputs {
+        assert_eq!(data(&one.file_name()), one.bytes, "{}", one.name);
+    }
+    assert_eq!(data("README.md"), page(&all, &inputs).into_bytes());
+}
+
+#[test]
+fn the_stored_output_is_what_is_printed() {
+    let stored = fs::read(folder().join("stdout")).unwrap();
+    assert!(stored == files_tried::page().unwrap());
 }
 
 /// Every fault of a file but 1 and 2, which need no file or a larger one.

@@ -6,6 +6,7 @@ mod examples;
 mod faults;
 mod files_tried;
 mod generated;
+mod padding;
 mod published;
 mod reading;
 mod sample;

@@ -1,13 +1,11 @@
 //! `shelf check`
 
-use crate::desk::{house, Desk, Ran};
+use crate::desk::{house, Desk};
 use shelf::{generate, sample};
 use std::ffi::OsStr;
 use std::fs::{self, File};
-use std::io::Write;
 use std::os::unix::ffi::OsStrExt;
 use std::os::unix::fs::symlink;
-use std::process::Stdio;
 
 #[test]
 fn an_accepted_file_and_its_counts() {
@@ -165,29 +163,20 @@ fn names_of_any_bytes_can_be_judged_and_are_shown_on_one_line() {
         .starts_with("a\\tb\\nc\\\\d\\xFF.b: refused, fault 8"));
 }
 
-/// Runs the command with something on its standard input.
-fn fed(desk: &Desk, words: &[&str], input: &[u8]) -> Ran {
-    let mut command = desk.command(words);
-    command.stdin(Stdio::piped()).stdout(Stdio::piped());
-    let mut child = command.stderr(Stdio::piped()).spawn().unwrap();
-    child.stdin.take().unwrap().write_all(input).unwrap();
-    Ran::of(child.wait_with_output().unwrap())
-}
-
 #[test]
 fn a_dash_is_standard_input_and_output() {
     let desk = Desk::new("dash");
     let file = sample::file();
-    let ran = fed(&desk, &["check", "-"], &file).ended(0);
+    let ran = desk.fed(&["check", "-"], &file).ended(0);
     assert!(ran.out.starts_with("-: accepted, 24 records"));
-    let ran = fed(&desk, &["sheet", "-"], &file).ended(0);
+    let ran = desk.fed(&["sheet", "-"], &file).ended(0);
     assert!(ran.out.starts_with("FILE\t24\t0\t0\t0\n"));
-    let ran = fed(&desk, &["show", "-", "17"], &file).ended(0);
+    let ran = desk.fed(&["show", "-", "17"], &file).ended(0);
     assert!(ran.out.starts_with("-, record 17: *80* control point\n"));
-    let ran = fed(&desk, &["rewrite", "-", "-"], &file).ended(0);
+    let ran = desk.fed(&["rewrite", "-", "-"], &file).ended(0);
     assert_eq!(ran.out.as_bytes(), house(&file));
     assert_eq!(ran.err, "");
-    let ran = fed(&desk, &["rewrite", "-", "-"], &file[81..]).ended(1);
+    let ran = desk.fed(&["rewrite", "-", "-"], &file[81..]).ended(1);
     assert_eq!(ran.out, "");
     assert!(ran
         .err
@@ -216,7 +205,7 @@ fn folders_and_lists_of_names() {
     assert_eq!(ran.out.matches(": accepted").count(), 2);
     assert_eq!(ran.err, "shelf: none.b: there is no such file or folder\n");
     let words = ["check", "--files-from=-", "-0"];
-    let ran = fed(&desk, &words, b"two\nlines\0folder/a/good.b").ended(0);
+    let ran = desk.fed(&words, b"two\nlines\0folder/a/good.b").ended(0);
     assert!(ran.out.starts_with("two\\nlines: accepted"));
     assert_eq!(ran.out.lines().count(), 2);
     // What is not judged is named.

@@ -3,6 +3,7 @@
 use shelf::plain;
 use std::ffi::OsStr;
 use std::fs;
+use std::io::Write;
 use std::os::unix::fs::PermissionsExt;
 use std::os::unix::process::{CommandExt, ExitStatusExt};
 use std::path::{Path, PathBuf};
@@ -118,6 +119,15 @@ impl Desk {
 
     pub fn run<W: AsRef<OsStr>>(&self, words: &[W]) -> Ran {
         Ran::of(self.command(words).output().unwrap())
+    }
+
+    /// Runs the command with something on its standard input.
+    pub fn fed(&self, words: &[&str], input: &[u8]) -> Ran {
+        let mut command = self.command(words);
+        command.stdin(Stdio::piped()).stdout(Stdio::piped());
+        let mut child = command.stderr(Stdio::piped()).spawn().unwrap();
+        child.stdin.take().unwrap().write_all(input).unwrap();
+        Ran::of(child.wait_with_output().unwrap())
     }
 
     /// Runs the command with no more rights than its owner has: root would be

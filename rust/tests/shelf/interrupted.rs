@@ -129,6 +129,7 @@ fn waiting_for_input_it_ends_on_the_first_signal() {
     for words in [
         &["rewrite", "pipe", "out.b"][..],
         &["rewrite", "-", "out.b"],
+        &["pad", "-", "out.b"],
         &["check", "-"],
         &["check", "good.b", "pipe"],
         &["check", "--files-from", "-"],

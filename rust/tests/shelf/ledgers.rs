@@ -1,10 +1,12 @@
 //! The ledger of a move: its rows, its totals, its names.
 
+use crate::deposits::{example, height_lost, too_long, trimmed, with_cr_lf};
 use crate::desk::Desk;
 use shelf::plain::layout::KINDS;
 use shelf::{generate, plain, sample};
 use std::ffi::OsStr;
 use std::os::unix::ffi::OsStrExt;
+use std::os::unix::fs::symlink;
 use std::path::Path;
 
 /// Moves what is below `old` and gives the ledger's rows by columns.
@@ -70,6 +72,70 @@ fn a_row_for_each_file_and_totals_at_the_end() {
     assert_eq!(rows[8][20], "0 files");
 }
 
+/// The digest of a file, by ordinary tools.
+fn digest(desk: &Desk, name: &str) -> String {
+    let ran = desk.shell(&format!("sha256sum < {name}")).ended(0);
+    ran.out.split(' ').next().unwrap().to_string()
+}
+
+/// One column more, the last; the digest of a file read is of its own bytes.
+#[test]
+fn what_padding_did_is_in_the_last_column() {
+    let desk = Desk::new("ledger-pad");
+    for (name, file) in [
+        ("crlf.b", with_cr_lf(&example())),
+        ("good.b", example()),
+        ("long.b", too_long()),
+        ("lost.b", trimmed(&height_lost())),
+        ("short.b", trimmed(&example())),
+    ] {
+        desk.put(format!("old/{name}"), &file);
+    }
+    symlink("good.b", desk.path("old/link.b")).unwrap();
+    let words = ["move", "--pad", "old", "new", "--ledger", "ledger.tsv"];
+    desk.run(&words).ended(1);
+    let read = |name: &str| digest(&desk, &format!("old/{name}"));
+    // The example stands in house style.
+    let written = read("good.b");
+    let titles = "file\trecords in\trecords out\tAA\t10\t11\t12\t25\t26\t27\t70\t72\t80\t86\t91\
+                  \t92\t93\tfault\trecord\tcolumn\toutcome\tsha-256 in\tsha-256 out\tpadding";
+    let moved = "34\t34\t2\t1\t1\t1\t4\t3\t9\t2\t2\t3\t3\t1\t1\t1\t0\t0\t0\taccepted";
+    let none = "0\t0\t0\t0\t0\t0\t0\t0\t0\t0\t0\t0\t0\t0";
+    let rows = [
+        titles.to_string(),
+        format!("crlf.b\t{moved}\t{}\t{written}\tchanged", read("crlf.b")),
+        format!("good.b\t{moved}\t{written}\t{written}\tunchanged"),
+        format!(
+            "link.b\t0\t0\t{none}\t-\t-\t-\tnot judged: a symbolic link, not followed\t-\t-\t-"
+        ),
+        format!(
+            "long.b\t0\t0\t{none}\t5\t7\t81\trefused\t{}\t-\trefused",
+            read("long.b")
+        ),
+        format!(
+            "lost.b\t34\t0\t{none}\t10\t30\t24\trefused\t{}\t-\tchanged",
+            read("lost.b")
+        ),
+        format!("short.b\t{moved}\t{}\t{written}\tchanged", read("short.b")),
+        "TOTAL accepted\t102\t102\t6\t3\t3\t3\t12\t9\t27\t6\t6\t9\t9\t3\t3\t3\t-\t-\t-\t3 files\
+         \t-\t-\t-"
+            .to_string(),
+        format!("TOTAL refused\t34\t0\t{none}\t-\t-\t-\t2 files\t-\t-\t-"),
+        format!("TOTAL not judged\t0\t0\t{none}\t-\t-\t-\t1 files\t-\t-\t-"),
+        format!("TOTAL failed\t0\t0\t{none}\t-\t-\t-\t0 files\t-\t-\t-"),
+    ];
+    let ledger = String::from_utf8(desk.get("ledger.tsv")).unwrap();
+    assert_eq!(ledger, rows.join("\n") + "\n");
+    assert_eq!(against(&desk), "crlf.b: OK\ngood.b: OK\nshort.b: OK\n");
+}
+
+/// Holds what is below `new` against the ledger, as the documents say it.
+fn against(desk: &Desk) -> String {
+    let line = "awk -F '\\t' '$21 ~ /^accepted/ { print $23 \"  \" $1 }' ../ledger.tsv";
+    let ran = desk.shell(&format!("cd new; {line} | sha256sum -c"));
+    ran.ended(0).out
+}
+
 /// A member can hold any file against the ledger with ordinary tools.
 #[test]
 fn digests_are_those_of_sha256sum() {
@@ -79,24 +145,15 @@ fn digests_are_those_of_sha256sum() {
     desk.put("old/long.b", &generate::accepted(9, 100_003));
     desk.put("old/refused.b", &sample::file()[..500]);
     let rows = ledger(&desk, 1);
-    let said = |name: &str| {
-        let ran = desk.shell(&format!("sha256sum < {name}")).ended(0);
-        ran.out.split(' ').next().unwrap().to_string()
-    };
     for row in &rows[1..5] {
-        assert_eq!(row[21], said(&format!("old/{}", row[0])));
+        assert_eq!(row[21], digest(&desk, &format!("old/{}", row[0])));
     }
     assert_eq!(rows[2][0], "good.b");
-    assert_eq!(rows[2][22], said("new/good.b"));
+    assert_eq!(rows[2][22], digest(&desk, "new/good.b"));
     for row in [1, 3, 4] {
         assert_eq!(rows[row][22], "-");
     }
-    // As the documents say it.
-    let line = "awk -F '\\t' '$21 ~ /^accepted/ { print $23 \"  \" $1 }' ../ledger.tsv";
-    let ran = desk
-        .shell(&format!("cd new; {line} | sha256sum -c"))
-        .ended(0);
-    assert_eq!(ran.out, "good.b: OK\n");
+    assert_eq!(against(&desk), "good.b: OK\n");
 }
 
 #[test]

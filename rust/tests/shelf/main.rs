@@ -1,12 +1,14 @@
 //! The command line, run as a user would run it.
 
 mod check;
+mod deposits;
 mod desk;
 mod held;
 mod interrupted;
 mod killed;
 mod ledgers;
 mod moving;
+mod pad;
 mod places;
 mod rewrite;
 mod scripts;

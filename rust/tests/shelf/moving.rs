@@ -1,5 +1,6 @@
 //! `shelf move`: what is moved, what is left, what is refused to be done.
 
+use crate::deposits::{example, forms, height_lost, too_long, trimmed, with_cr_lf, ADVICE};
 use crate::desk::{house, Desk};
 use crate::held::terminal;
 use shelf::{generate, sample};
@@ -59,6 +60,63 @@ fn refused_files_are_named_and_stay() {
          every accepted file moved: 24 records in, 24 records out\n"
     );
     assert_eq!(desk.files("new"), ["good.b"]);
+}
+
+#[test]
+fn padded_files_are_judged_moved_and_compared() {
+    let desk = Desk::new("move-pad");
+    desk.put("old/a/crlf.b", &with_cr_lf(&example()));
+    desk.put("old/good.b", &example());
+    desk.put("old/long.b", &too_long());
+    desk.put("old/lost.b", &trimmed(&height_lost()));
+    desk.put("old/short.b", &trimmed(&example()));
+    let ran = desk.run(&[&MOVE[..], &["--pad"]].concat()).ended(1);
+    let refused = "long.b: refused by the padding, fault 5, line 7, column 81: line 7 has more \
+                   than 80 bytes, so the file cannot be padded\n\
+                   lost.b: refused, fault 10, record 30, column 24: a field well formed that \
+                   disagrees with an earlier one\n";
+    let totals = "5 files below old: 3 accepted, 2 refused, 0 not judged, 0 failed\n\
+                  every accepted file moved: 102 records in, 102 records out\n";
+    assert_eq!(ran.out, [refused, totals].concat());
+    assert_eq!(ran.err, "");
+    assert_eq!(desk.files("new"), ["a/crlf.b", "good.b", "short.b"]);
+    for name in desk.files("new") {
+        assert!(
+            desk.get(format!("new/{name}")) == house(&example()),
+            "{name}"
+        );
+    }
+    // Nothing below the old folder is padded, and a second run finds all there.
+    assert!(desk.get("old/short.b") == trimmed(&example()));
+    let words = [&again("second.tsv")[..], &["--pad", "--quiet"]].concat();
+    assert_eq!(desk.run(&words).ended(1).out, refused);
+    let ledger = String::from_utf8(desk.get("second.tsv")).unwrap();
+    assert_eq!(ledger.matches("\taccepted, there already\t").count(), 3);
+}
+
+#[test]
+fn a_refused_file_that_padding_would_help_is_told_so() {
+    let desk = Desk::new("move-advice");
+    let forms = forms();
+    for (number, (form, _)) in forms.iter().enumerate() {
+        desk.put(format!("old/{number:02}.b"), form);
+    }
+    let ran = desk.run(&MOVE).ended(1);
+    let mut lines = ran.out.lines();
+    for (number, (_, helps)) in forms.iter().enumerate() {
+        let refused = format!("{number:02}.b: refused, fault ");
+        assert!(lines.next().unwrap().starts_with(&refused), "{}", ran.out);
+        if *helps {
+            assert_eq!(lines.next().unwrap(), format!("    {}", ADVICE.trim_end()));
+        }
+    }
+    assert!(lines
+        .next()
+        .unwrap()
+        .starts_with("13 files below old: 0 accepted"));
+    // The ledger is as it is without a word of padding.
+    let ledger = String::from_utf8(desk.get("ledger.tsv")).unwrap();
+    assert!(ledger.lines().all(|row| row.split('\t').count() == 23));
 }
 
 #[test]

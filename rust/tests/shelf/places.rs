@@ -1,6 +1,7 @@
 //! `shelf move`: no file takes the place of another, and none is written below
 //! the old folder, by whatever name it is met.
 
+use crate::deposits::{example, trimmed};
 use crate::desk::{house, Desk};
 use crate::held::{changes, logged, Held};
 use shelf::{generate, sample};
@@ -142,6 +143,23 @@ fn only_a_ledger_is_kept_aside() {
     let words = ["move", "other", "new", "--ledger", "empty.tsv"];
     desk.run(&words).ended(0);
     assert!(desk.has("empty.tsv") && desk.has("empty.tsv.unfinished.1"));
+}
+
+/// A run with padding and one without know each other's ledger.
+#[test]
+fn a_ledger_with_another_last_column_is_kept_aside() {
+    let desk = Desk::new("place-padding");
+    desk.put("old/good.b", &sample::file());
+    for (number, first, then) in [(1, &["--pad"][..], &[][..]), (2, &[], &["--pad"])] {
+        let words = |more| [&MOVE[..], more, &["--replace"]].concat();
+        desk.run(&words(first)).ended(0);
+        let left = desk.get("ledger.tsv");
+        fs::rename(desk.path("ledger.tsv"), desk.path("ledger.tsv.unfinished")).unwrap();
+        desk.run(&words(then)).ended(0);
+        let aside = format!("ledger.tsv.unfinished.{number}");
+        assert!(desk.get(aside) == left);
+        assert!(desk.get("ledger.tsv") != left);
+    }
 }
 
 /// Through a link in the new folder the ledger stood in a moved file's place.
@@ -337,6 +355,23 @@ fn the_last_look() {
     let ledger = String::from_utf8(desk.get("ledger.tsv")).unwrap();
     assert!(ledger.contains("TOTAL accepted\t24\t24\t"));
     assert!(ledger.contains("TOTAL failed\t72\t0\t"));
+}
+
+/// The row of a file that was padded, moved and lost still says what padding
+/// did.
+#[test]
+fn the_last_look_at_a_padded_file() {
+    let desk = Desk::new("place-last-padded");
+    desk.put("old/short.b", &trimmed(&example()));
+    let command = desk.command(&[&MOVE[..], &["--pad"]].concat());
+    let held = Held::after(command, "linkat", "1");
+    fs::remove_file(desk.path("new/short.b")).unwrap();
+    held.on().ended(2);
+    let ledger = String::from_utf8(desk.get("ledger.tsv")).unwrap();
+    let rows: Vec<&str> = ledger.lines().collect();
+    assert!(rows[1].starts_with("short.b\t34\t34\t") && rows[1].ends_with("\tchanged"));
+    assert!(rows[2].starts_with("short.b\t34\t0\t") && rows[2].ends_with("\t-\tchanged"));
+    assert!(rows[2].contains("\tfailed: at the last look: "));
 }
 
 /// Before a name is given, the disk has what it names; before the ledger says

@@ -63,9 +63,11 @@ fn what_is_no_regular_file_is_never_written_over() {
     symlink("aim.b", desk.path("link.b")).unwrap();
     symlink("/dev/full", desk.path("device.b")).unwrap();
     for name in ["link.b", "device.b", ".", "/dev/full"] {
-        let ran = desk.run(&["rewrite", "in.b", name, "--replace"]).ended(2);
-        let said = format!("shelf: {name}: not written over: it is no regular file\n");
-        assert_eq!(ran.err, said);
+        for verb in ["rewrite", "pad"] {
+            let ran = desk.run(&[verb, "in.b", name, "--replace"]).ended(2);
+            let said = format!("shelf: {name}: not written over: it is no regular file\n");
+            assert_eq!(ran.err, said);
+        }
     }
     assert_eq!(desk.get("aim.b"), b"kept");
     assert_eq!(desk.files("."), ["aim.b", "device.b", "in.b", "link.b"]);

@@ -263,9 +263,13 @@ fn what_bash_offers() {
     desk.put("file", b"");
     for (words, offered) in [
         ("ch", "check"),
-        ("", "check sheet show rewrite move help --help --version"),
+        (
+            "",
+            "check sheet show pad rewrite move help --help --version",
+        ),
         ("move --d", "--dry-run"),
         ("check --j", "--json"),
+        ("rewrite --p", "--pad"),
         ("sheet --re", ""),
         ("help re", "rewrite"),
         ("move --ledger f", ""),

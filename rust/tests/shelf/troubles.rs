@@ -12,6 +12,7 @@ fn files_that_are_not_there_and_folders() {
         &["sheet", "none.b"],
         &["show", "none.b", "1"],
         &["rewrite", "none.b", "out.b"],
+        &["pad", "none.b", "out.b"],
     ] {
         let ran = desk.run(words).ended(2);
         assert_eq!(ran.err, "shelf: none.b: there is no such file or folder\n");
@@ -82,8 +83,12 @@ fn standard_output_on_a_full_disk() {
         let ran = desk.shell(&format!("shelf {line} 1< good.b")).ended(2);
         assert!(ran.err.starts_with("shelf: standard output: "), "{line}");
     }
-    desk.shell("shelf rewrite good.b - > /dev/full").ended(2);
-    desk.shell("shelf rewrite good.b out.b >&-").ended(2);
+    for verb in ["rewrite", "pad"] {
+        let ran = desk.shell(&format!("shelf {verb} good.b - > /dev/full"));
+        ran.ended(2);
+        let ran = desk.shell(&format!("shelf {verb} good.b out.b >&-"));
+        ran.ended(2);
+    }
     assert!(!desk.has("out.b"));
     // The move itself is done, and its ledger written, but not reported.
     desk.put("old/good.b", &sample::file());
@@ -98,13 +103,15 @@ fn a_limit_on_the_size_of_files() {
     let desk = Desk::new("limit");
     desk.put("in.b", &generate::accepted(5, 2_000));
     desk.put("out.b", b"kept");
-    let ran = desk.shell("ulimit -f 8; shelf rewrite in.b out.b --replace");
-    let ran = ran.ended(2);
-    assert_eq!(
-        ran.err,
-        "shelf: out.b: the file is larger than may be written here\n"
-    );
-    assert_eq!(desk.get("out.b"), b"kept");
+    for verb in ["rewrite", "pad"] {
+        let line = format!("ulimit -f 8; shelf {verb} in.b out.b --replace");
+        let ran = desk.shell(&line).ended(2);
+        assert_eq!(
+            ran.err,
+            "shelf: out.b: the file is larger than may be written here\n"
+        );
+        assert_eq!(desk.get("out.b"), b"kept");
+    }
     assert_eq!(desk.files("."), ["in.b", "out.b"]);
 }
 

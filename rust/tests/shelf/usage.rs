@@ -23,6 +23,11 @@ fn wrong_words_end_with_2_and_say_what_is_wrong() {
             "4294967296 is no record number",
         ),
         (&["rewrite", "a"], "rewrite needs two files"),
+        (&["pad", "a"], "pad needs two files"),
+        (&["pad", "a", "b", "c"], "pad needs two files"),
+        (&["pad", "a", "b", "--pad"], "pad takes no --pad"),
+        (&["rewrite", "a", "b", "--pad=yes"], "--pad takes no value"),
+        (&["help", "--pad"], "help takes no --pad"),
         (&["move", "a", "b"], "move needs --ledger FILE"),
         (&["move", "a", "b", "--ledger"], "--ledger needs a file"),
         (
@@ -58,7 +63,7 @@ fn help_is_given_when_asked_for() {
     let desk = Desk::new("help");
     for words in [&["help"][..], &["--help"], &["-h"]] {
         let ran = desk.run(words).ended(0);
-        for verb in ["check", "sheet", "show", "rewrite", "move", "help"] {
+        for verb in ["check", "sheet", "show", "pad", "rewrite", "move", "help"] {
             assert!(ran.out.contains(&format!("shelf {verb} ")));
         }
         assert!(ran.out.lines().all(|line| line.len() < 100));
@@ -71,9 +76,13 @@ fn help_on_each_command() {
     let desk = Desk::new("help-each");
     for (verb, option) in [
         ("check", "--files-from FILE"),
-        ("sheet", "--help"),
-        ("show", "--version"),
+        ("check", "--pad "),
+        ("sheet", "--pad "),
+        ("show", "--pad "),
+        ("pad", "--replace"),
         ("rewrite", "--replace"),
+        ("rewrite", "--pad "),
+        ("move", "--pad "),
         ("move", "--dry-run"),
         ("help", "--help"),
     ] {

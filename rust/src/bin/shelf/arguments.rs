@@ -37,8 +37,13 @@ const fn with_file(name: &'static str, what: &'static str) -> Choice {
 }
 
 const REPLACE: Choice = flag("--replace", "write over a file that is there");
+const QUIET: Choice = flag("--quiet", "say nothing if all went well");
+const PAD: Choice = flag(
+    "--pad",
+    "fill lines with blanks to 80 columns first; CR LF ends a line too",
+);
 
-pub const VERBS: [Verb; 6] = [
+pub const VERBS: [Verb; 7] = [
     Verb {
         name: "check",
         operands: "FILE..",
@@ -53,6 +58,7 @@ pub const VERBS: [Verb; 6] = [
                 "-0",
                 "in that FILE a zero byte ends each name, not a line feed",
             ),
+            PAD,
             flag("--json", "one JSON object for each file, a line each"),
             flag("--quiet", "say nothing of accepted files"),
         ],
@@ -62,21 +68,30 @@ pub const VERBS: [Verb; 6] = [
         operands: "FILE",
         what: "the deposit sheet, of up to 64,800 bytes",
         more: "",
-        choices: &[],
+        choices: &[PAD],
     },
     Verb {
         name: "show",
         operands: "FILE RECORD",
         what: "one record's values",
         more: "RECORD is its number, from 1 on.\n",
-        choices: &[],
+        choices: &[PAD],
+    },
+    Verb {
+        name: "pad",
+        operands: "IN OUT",
+        what: "a file with its lines filled to 80 columns",
+        more: "A line ends with LF or CR LF and has at most 80 bytes; it is filled with\n\
+               blanks and ended with LF. The file is not judged beyond that. A file that\n\
+               cannot be padded is not written, and OUT stays as it was.\n",
+        choices: &[REPLACE, QUIET],
     },
     Verb {
         name: "rewrite",
         operands: "IN OUT",
         what: "an accepted file in house style",
         more: "A refused file is not written, and OUT stays as it was.\n",
-        choices: &[REPLACE, flag("--quiet", "say nothing if all went well")],
+        choices: &[PAD, REPLACE, QUIET],
     },
     Verb {
         name: "move",
@@ -85,9 +100,11 @@ pub const VERBS: [Verb; 6] = [
         more: "Nothing below OLD is changed. The ledger names every file, with what became\n\
                of it and the SHA-256 of what was read and of what was written. At the end\n\
                every moved file is looked at once more. A run that was stopped can be run\n\
-               again.\n",
+               again. With --pad the ledger's last column says whether padding changed the\n\
+               file.\n",
         choices: &[
             with_file("--ledger", "where the ledger is written; it has to be said"),
+            PAD,
             REPLACE,
             flag("--dry-run", "judge every file, and write the ledger only"),
             flag("--quiet", "say nothing but what was not moved"),
@@ -110,9 +127,10 @@ pub const ALWAYS: [Choice; 2] = [
 
 pub enum Command {
     Check(Check),
-    Sheet { file: PathBuf },
-    Show { file: PathBuf, record: u32 },
-    Rewrite(Rewrite),
+    Sheet(Single),
+    Show(Single, u32),
+    Pad(Making),
+    Rewrite(Making),
     Move(Order),
     Help(Option<&'static Verb>),
     Version,
@@ -123,14 +141,22 @@ pub struct Check {
     pub files: Vec<PathBuf>,
     pub files_from: Option<PathBuf>,
     pub zero_ends: bool,
+    pub pad: bool,
     pub json: bool,
     pub quiet: bool,
 }
 
-/// What is to be rewritten.
-pub struct Rewrite {
+/// One file, of which something is asked.
+pub struct Single {
+    pub file: PathBuf,
+    pub pad: bool,
+}
+
+/// Which file is to be made of which.
+pub struct Making {
     pub from: PathBuf,
     pub to: PathBuf,
+    pub pad: bool,
     pub replace: bool,
     pub quiet: bool,
 }
@@ -140,6 +166,7 @@ pub struct Order {
     pub old: PathBuf,
     pub new: PathBuf,
     pub ledger: PathBuf,
+    pub pad: bool,
     pub replace: bool,
     pub dry_run: bool,
     pub quiet: bool,
@@ -183,42 +210,28 @@ pub fn parse(mut words: impl Iterator<Item = OsString>) -> Result<Command, Troub
 }
 
 fn command(verb: &'static Verb, mut words: Words) -> Result<Command, Trouble> {
-    let [replace, quiet] = ["--replace", "--quiet"].map(|name| words.has(name));
+    let pad = words.has(PAD.name);
     let names = std::mem::take(&mut words.names);
     match verb.name {
         "check" => check(names, &words),
         "sheet" => {
             let [file] = exactly(names, "sheet needs one file")?;
-            Ok(Command::Sheet { file })
+            Ok(Command::Sheet(Single { file, pad }))
         }
         "show" => {
             let [file, record] = exactly(names, "show needs a file and a record number")?;
             let record = record_number(&record)?;
-            Ok(Command::Show { file, record })
+            Ok(Command::Show(Single { file, pad }, record))
+        }
+        "pad" => {
+            let files = exactly(names, "pad needs two files")?;
+            Ok(Command::Pad(making(files, true, &words)))
         }
         "rewrite" => {
-            let [from, to] = exactly(names, "rewrite needs two files")?;
-            Ok(Command::Rewrite(Rewrite {
-                from,
-                to,
-                replace,
-                quiet,
-            }))
+            let files = exactly(names, "rewrite needs two files")?;
+            Ok(Command::Rewrite(making(files, pad, &words)))
         }
-        "move" => {
-            let [old, new] = exactly(names, "move needs an old and a new folder")?;
-            let ledger = words.value("--ledger");
-            let ledger = ledger.ok_or_else(|| Trouble::usage("move needs --ledger FILE"))?;
-            let dry_run = words.has("--dry-run");
-            Ok(Command::Move(Order {
-                old,
-                new,
-                ledger,
-                replace,
-                dry_run,
-                quiet,
-            }))
-        }
+        "move" => order(names, &words),
         _ => match &names[..] {
             [] => Ok(Command::Help(None)),
             [name] => Ok(Command::Help(Some(verb_named(name.as_os_str())?))),
@@ -227,12 +240,38 @@ fn command(verb: &'static Verb, mut words: Words) -> Result<Command, Trouble> {
     }
 }
 
+fn making([from, to]: [PathBuf; 2], pad: bool, words: &Words) -> Making {
+    Making {
+        from,
+        to,
+        pad,
+        replace: words.has(REPLACE.name),
+        quiet: words.has(QUIET.name),
+    }
+}
+
+fn order(folders: Vec<PathBuf>, words: &Words) -> Result<Command, Trouble> {
+    let [old, new] = exactly(folders, "move needs an old and a new folder")?;
+    let ledger = words.value("--ledger");
+    let ledger = ledger.ok_or_else(|| Trouble::usage("move needs --ledger FILE"))?;
+    Ok(Command::Move(Order {
+        old,
+        new,
+        ledger,
+        pad: words.has(PAD.name),
+        replace: words.has(REPLACE.name),
+        dry_run: words.has("--dry-run"),
+        quiet: words.has(QUIET.name),
+    }))
+}
+
 fn check(files: Vec<PathBuf>, words: &Words) -> Result<Command, Trouble> {
     let files_from = words.value("--files-from");
     if files.is_empty() && files_from.is_none() {
         return Err(Trouble::usage("check needs at least one file"));
     }
-    let [zero_ends, json, quiet] = ["-0", "--json", "--quiet"].map(|name| words.has(name));
+    let asked = ["-0", PAD.name, "--json", QUIET.name];
+    let [zero_ends, pad, json, quiet] = asked.map(|name| words.has(name));
     if zero_ends && files_from.is_none() {
         return Err(Trouble::usage("-0 goes with --files-from"));
     }
@@ -240,6 +279,7 @@ fn check(files: Vec<PathBuf>, words: &Words) -> Result<Command, Trouble> {
         files,
         files_from,
         zero_ends,
+        pad,
         json,
         quiet,
     }))

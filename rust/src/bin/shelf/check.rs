@@ -1,13 +1,13 @@
 //! `shelf check FILE..`
 
 use crate::arguments::Check;
+use crate::deposit::{self, Deposit};
 use crate::disk::Folder;
-use crate::load::{self, load};
+use crate::load;
 use crate::status::Status;
 use crate::trouble::Trouble;
 use crate::walk::{self, Sort};
 use crate::{json, names, report};
-use shelf::library;
 use std::ffi::OsStr;
 use std::io::{self, Read, Write};
 use std::os::unix::ffi::OsStrExt;
@@ -77,21 +77,22 @@ impl Desk<'_> {
     }
 
     fn file(&mut self, path: &Path) -> Result<(), Trouble> {
-        let loaded = match load(path) {
-            Ok(loaded) => loaded,
+        let deposit = match Deposit::load(path, self.order.pad) {
+            Ok(deposit) => deposit,
             Err(trouble) => return self.not_judged(path, &trouble, Status::Trouble),
         };
-        let verdict = library::check(&loaded.bytes);
-        if !verdict.is_accepted() {
+        let judged = deposit.ask(deposit::checked);
+        if judged.is_err() {
             self.worst = self.worst.max(Status::Refused);
         } else if self.order.quiet {
             return Ok(());
         }
-        if self.order.json {
-            json::verdict(self.out, path, &loaded, &verdict).map_err(Trouble::standard_output)
-        } else {
-            report::verdict(self.out, path, &loaded, &verdict)
+        match (&judged, self.order.json) {
+            (_, true) => json::verdict(self.out, path, &deposit, &judged),
+            (Ok(verdict), false) => report::accepted(self.out, path, &verdict.counts),
+            (Err(refusal), false) => report::refused_file(self.out, path, &deposit, refusal),
         }
+        .map_err(Trouble::standard_output)
     }
 
     fn not_judged(&mut self, path: &Path, why: &Trouble, status: Status) -> Result<(), Trouble> {

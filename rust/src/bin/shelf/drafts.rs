@@ -28,7 +28,7 @@ pub fn is_draft(name: &OsStr) -> bool {
 }
 
 /// A file on its way. It is removed again unless it is put in place.
-pub struct Draft<'a> {
+struct Draft<'a> {
     folder: &'a Folder,
     name: OsString,
     file: File,
@@ -38,7 +38,7 @@ pub struct Draft<'a> {
 
 impl Draft<'_> {
     /// Begins a file with these rights, as far as the user grants them.
-    pub fn begin(folder: &Folder, rights: u32) -> io::Result<Draft<'_>> {
+    fn begin(folder: &Folder, rights: u32) -> io::Result<Draft<'_>> {
         for number in 0..TRIES {
             let name = OsString::from(format!("{BEGIN}{}-{number}{END}", process::id()));
             match folder.create(&name, rights) {
@@ -65,26 +65,26 @@ impl Draft<'_> {
         Err(ErrorKind::AlreadyExists.into())
     }
 
-    pub fn id(&self) -> Id {
+    fn id(&self) -> Id {
         self.id
     }
 
-    pub fn add(&mut self, bytes: &[u8]) -> io::Result<()> {
+    fn add(&mut self, bytes: &[u8]) -> io::Result<()> {
         self.file.write_all(bytes)
     }
 
     /// Takes over rights and time.
-    pub fn keep(&self, kept: Kept) -> io::Result<()> {
+    fn keep(&self, kept: Kept) -> io::Result<()> {
         disk::keep(&self.file, kept)
     }
 
     /// Sees to it that the disk has all that was added.
-    pub fn flush(&self) -> io::Result<()> {
+    fn flush(&self) -> io::Result<()> {
         self.file.sync_all()
     }
 
     /// What the disk gives back of what was written.
-    pub fn read_back(&mut self) -> io::Result<Vec<u8>> {
+    fn read_back(&mut self) -> io::Result<Vec<u8>> {
         self.file.rewind()?;
         let known = self.file.metadata()?;
         disk::read_all(&mut self.file, &known)
@@ -92,7 +92,7 @@ impl Draft<'_> {
 
     /// Gives the file its name, in one step. Unless it may be replaced, a
     /// file that is there stays: `AlreadyExists`.
-    pub fn place(mut self, target: &OsStr, replace: bool) -> io::Result<()> {
+    fn place(mut self, target: &OsStr, replace: bool) -> io::Result<()> {
         self.folder.give_name(&self.name, target, replace)?;
         self.is_placed = true;
         Ok(())
@@ -104,6 +104,41 @@ impl Drop for Draft<'_> {
         if !self.is_placed {
             let _ = self.folder.remove(&self.name);
         }
+    }
+}
+
+/// The rights of a file that takes over none: the user's mask does the rest.
+const ALL_MAY: u32 = 0o666;
+
+/// Writes a file to `target`. What the disk gives back must pass `compare`,
+/// or nothing is put in place. Gives what `compare` gave, and which file it
+/// is; nothing if another was there first.
+pub fn write<T>(
+    folder: &Folder,
+    target: &OsStr,
+    bytes: &[u8],
+    replace: bool,
+    kept: Option<Kept>,
+    compare: impl Fn(&[u8]) -> Result<T, String>,
+) -> Result<Option<(T, Id)>, Trouble> {
+    let path = folder.named(target);
+    let on = || Trouble::on(&path);
+    let rights = kept.map_or(ALL_MAY, |kept| kept.rights());
+    let mut draft = Draft::begin(folder, rights).map_err(on())?;
+    draft.add(bytes).map_err(on())?;
+    if let Some(kept) = kept {
+        draft.keep(kept).map_err(on())?;
+    }
+    draft.flush().map_err(on())?;
+    let written = draft.read_back().map_err(on())?;
+    let compared = compare(&written).map_err(|what| {
+        let what = format!("not put in place, since what was written {what}");
+        Trouble::about(&path, what)
+    })?;
+    let id = draft.id();
+    match draft.place(target, replace) {
+        Err(error) if error.kind() == ErrorKind::AlreadyExists => Ok(None),
+        placed => placed.map_err(on()).map(|()| Some((compared, id))),
     }
 }
 

@@ -2,17 +2,13 @@
 //! gets its name.
 
 use crate::disk::{Folder, Id, Kept};
-use crate::drafts::Draft;
+use crate::drafts;
 use crate::fields::{self, Form};
 use crate::trouble::Trouble;
 use shelf::library::{self, Verdict, LINE};
 use std::ffi::OsStr;
-use std::io::ErrorKind;
 
-/// The rights of a file that takes over none: the user's mask does the rest.
-const ALL_MAY: u32 = 0o666;
-
-/// An accepted file: as it stands, its verdict, and its house style.
+/// An accepted file: as it was judged, its verdict, and its house style.
 pub struct Accepted<'a> {
     pub source: &'a [u8],
     pub verdict: &'a Verdict,
@@ -20,10 +16,9 @@ pub struct Accepted<'a> {
 }
 
 impl Accepted<'_> {
-    /// Writes the house style to `target`. What the disk gives back must mean
-    /// what the file meant, or nothing is put in place. Gives the verdict on
-    /// what the disk gave back, and which file it is; nothing if another was
-    /// there first.
+    /// Writes the house style to `target`; it must mean what the file meant.
+    /// Gives the verdict on what the disk gave back, and which file it is;
+    /// nothing if another was there first.
     pub fn write(
         &self,
         folder: &Folder,
@@ -31,25 +26,9 @@ impl Accepted<'_> {
         replace: bool,
         kept: Option<Kept>,
     ) -> Result<Option<(Verdict, Id)>, Trouble> {
-        let path = folder.named(target);
-        let on = || Trouble::on(&path);
-        let rights = kept.map_or(ALL_MAY, |kept| kept.rights());
-        let mut draft = Draft::begin(folder, rights).map_err(on())?;
-        draft.add(self.house).map_err(on())?;
-        if let Some(kept) = kept {
-            draft.keep(kept).map_err(on())?;
-        }
-        draft.flush().map_err(on())?;
-        let written = draft.read_back().map_err(on())?;
-        let again = self.compare(&written).map_err(|what| {
-            let what = format!("not put in place, since what was written {what}");
-            Trouble::about(&path, what)
-        })?;
-        let id = draft.id();
-        match draft.place(target, replace) {
-            Err(error) if error.kind() == ErrorKind::AlreadyExists => Ok(None),
-            placed => placed.map_err(on()).map(|()| Some((again, id))),
-        }
+        drafts::write(folder, target, self.house, replace, kept, |written| {
+            self.compare(written)
+        })
     }
 
     /// Compares a file as written with what it was made from: counts, settled

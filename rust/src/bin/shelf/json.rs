@@ -1,6 +1,6 @@
 //! `shelf check --json`: one object for each file, a line each.
 
-use crate::load::Loaded;
+use crate::deposit::{Deposit, Refusal};
 use crate::{names, report};
 use shelf::library::{Verdict, KINDS};
 use std::fmt::Write as _;
@@ -8,30 +8,43 @@ use std::io::{self, Write};
 use std::path::Path;
 
 /// A file that was judged: name, number, record and column, records, the
-/// counts of an accepted one, and the fault in words.
+/// counts of an accepted one, the fault in words, and what there is to say of
+/// padding.
 pub fn verdict(
     out: &mut dyn Write,
     path: &Path,
-    loaded: &Loaded,
-    verdict: &Verdict,
+    deposit: &Deposit,
+    judged: &Result<Verdict, Refusal>,
 ) -> io::Result<()> {
     let name = quoted(&names::shown(path));
-    let fault = verdict.fault;
+    let (fault, counts, text, padding) = match judged {
+        Ok(verdict) => {
+            let text = "accepted".to_string();
+            (verdict.fault, verdict.counts, text, deposit.padding)
+        }
+        Err(refusal) => {
+            let text = report::explained(&deposit.bytes, refusal);
+            (refusal.fault, [0; 14], text, refusal.padding)
+        }
+    };
     let counts: Vec<String> = KINDS
         .iter()
-        .zip(verdict.counts)
+        .zip(counts)
         .map(|(code, count)| format!("{}:{count}", quoted(code)))
         .collect();
+    let padding = padding.map_or(String::new(), |padding| {
+        format!(",\"padding\":{}", quoted(padding.in_words()))
+    });
     writeln!(
         out,
         "{{\"name\":{name},\"number\":{},\"record\":{},\"column\":{},\"records\":{},\
-         \"counts\":{{{}}},\"text\":{}}}",
+         \"counts\":{{{}}},\"text\":{}{padding}}}",
         fault.number,
         fault.record,
         fault.column,
-        loaded.records(),
+        deposit.records,
         counts.join(","),
-        quoted(&report::explained(&loaded.bytes, fault))
+        quoted(&text)
     )
 }
 

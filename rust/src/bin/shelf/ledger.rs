@@ -1,12 +1,14 @@
 //! The ledger of a move: a row for each file, and totals.
 
+use crate::arguments::Order;
+use crate::deposit::{Padding, Refusal};
 use crate::disk::{self, Folder, Id, Opened};
 use crate::drafts;
 use crate::load::STANDARD;
 use crate::names;
 use crate::trouble::Trouble;
 use crate::walk::Found;
-use shelf::library::{Fault, KINDS};
+use shelf::library::KINDS;
 use shelf::sha256::Digest;
 use std::ffi::{OsStr, OsString};
 use std::fs::{File, TryLockError};
@@ -21,7 +23,7 @@ pub enum Outcome {
     ThereAlready,
     /// Accepted in a run that only judges.
     NotWritten,
-    Refused(Fault),
+    Refused(Refusal),
     NotJudged(&'static str),
     Failed(String),
     NotReached,
@@ -69,7 +71,7 @@ impl Outcome {
     fn fault(&self) -> [String; 3] {
         match (self.group(), self) {
             (Group::Accepted, _) => [0; 3].map(|word: u32| word.to_string()),
-            (_, Outcome::Refused(fault)) => {
+            (_, Outcome::Refused(Refusal { fault, .. })) => {
                 [fault.number, fault.record, fault.column].map(|word| word.to_string())
             }
             _ => ["-"; 3].map(str::to_string),
@@ -87,6 +89,7 @@ pub struct Row {
     pub outcome: Outcome,
     pub digest_in: Option<Digest>,
     pub digest_out: Option<Digest>,
+    pub padding: Option<Padding>,
 }
 
 impl Row {
@@ -100,6 +103,7 @@ impl Row {
             outcome,
             digest_in: None,
             digest_out: None,
+            padding: None,
         }
     }
 
@@ -108,12 +112,14 @@ impl Row {
         Row {
             records_in: self.records_in,
             digest_in: self.digest_in,
+            padding: self.padding,
             ..Row::new(&self.name, Outcome::Failed(why))
         }
     }
 
     fn columns(&self) -> Vec<String> {
         let digest = |digest: Option<Digest>| digest.map_or("-".to_string(), |it| it.to_string());
+        let padding = self.padding.map_or("-", Padding::in_words);
         [names::shown(&self.name), self.records_in.to_string()]
             .into_iter()
             .chain([self.records_out.to_string()])
@@ -121,6 +127,7 @@ impl Row {
             .chain(self.outcome.fault())
             .chain([self.outcome.in_words()])
             .chain([self.digest_in, self.digest_out].map(digest))
+            .chain([padding.to_string()])
             .collect()
     }
 }
@@ -170,6 +177,7 @@ pub struct Ledger<'a> {
     to: To<'a>,
     /// In messages.
     path: PathBuf,
+    pad: bool,
 }
 
 enum To<'a> {
@@ -179,18 +187,19 @@ enum To<'a> {
 
 impl<'a> Ledger<'a> {
     /// The ledger on standard output.
-    pub fn on(out: &'a mut dyn Write) -> Ledger<'a> {
+    pub fn on(out: &'a mut dyn Write, pad: bool) -> Ledger<'a> {
         let path = PathBuf::from("standard output");
         let to = To::Output(out);
-        Ledger { to, path }
+        Ledger { to, path, pad }
     }
 
     /// Reserves the ledger's place, which is not below the old folder: the
     /// ledger is no deposit.
-    pub fn at(path: &Path, replace: bool, old: &Found) -> Result<Ledger<'a>, Trouble> {
-        let to = To::File(Unfinished::reserve(path, replace, old)?);
-        let path = path.to_path_buf();
-        Ok(Ledger { to, path })
+    pub fn at(order: &Order, old: &Found) -> Result<Ledger<'a>, Trouble> {
+        let path = order.ledger.clone();
+        let to = To::File(Unfinished::reserve(&path, order.replace, old)?);
+        let pad = order.pad;
+        Ok(Ledger { to, path, pad })
     }
 
     /// The place that was reserved, if it is on a disk.
@@ -202,7 +211,7 @@ impl<'a> Ledger<'a> {
     }
 
     pub fn titles(&mut self) -> Result<(), Trouble> {
-        self.write(&titles())?;
+        self.write(&titles(self.pad))?;
         // From now on the file has something to say, whatever comes.
         if let To::File(unfinished) = &mut self.to {
             unfinished.stays = true;
@@ -211,7 +220,7 @@ impl<'a> Ledger<'a> {
     }
 
     pub fn add(&mut self, row: &Row) -> Result<(), Trouble> {
-        self.write(&line_of(&row.columns()))
+        self.write(&line_of(row.columns(), self.pad))
     }
 
     /// Writes the totals and gives the ledger its name. The totals are the
@@ -225,9 +234,9 @@ impl<'a> Ledger<'a> {
                 .chain(total.counts.map(|count| count.to_string()))
                 .chain(["-"; 3].map(str::to_string))
                 .chain([format!("{} files", total.files)])
-                .chain(["-"; 2].map(str::to_string))
+                .chain(["-"; 3].map(str::to_string))
                 .collect();
-            self.write(&line_of(&columns))?;
+            self.write(&line_of(columns, self.pad))?;
         }
         match self.to {
             To::Output(out) => out.flush().map_err(Trouble::standard_output),
@@ -381,10 +390,13 @@ fn keep_aside(folder: &Folder, passing: &OsStr, path: &Path) -> Result<(), Troub
     if !is_held(folder, passing, &left).map_err(on())? {
         return Err(busy(path));
     }
-    let titles = titles();
-    let begins = disk::read_up_to(&mut left, &known, titles.len()).map_err(on())?;
+    let [plain, padded] = [false, true].map(titles);
+    let begins = disk::read_up_to(&mut left, &known, padded.len()).map_err(on())?;
+    let is_ledger = [plain, padded]
+        .iter()
+        .any(|titles| begins.starts_with(titles.as_bytes()));
     // A run may have been cut short before it wrote the titles.
-    if !begins.is_empty() && begins != titles.as_bytes() {
+    if !begins.is_empty() && !is_ledger {
         let what = "there is one already, and it is no ledger";
         return Err(Trouble::about(&shown, what));
     }
@@ -406,15 +418,19 @@ fn keep_aside(folder: &Folder, passing: &OsStr, path: &Path) -> Result<(), Troub
 }
 
 /// The first line of every ledger.
-fn titles() -> String {
+fn titles(pad: bool) -> String {
     let head = ["file", "records in", "records out"];
     let tail = ["fault", "record", "column", "outcome"];
-    let digests = ["sha-256 in", "sha-256 out"];
-    let titles = head.into_iter().chain(KINDS).chain(tail).chain(digests);
-    line_of(&titles.map(str::to_string).collect::<Vec<_>>())
+    let last = ["sha-256 in", "sha-256 out", "padding"];
+    let titles = head.into_iter().chain(KINDS).chain(tail).chain(last);
+    line_of(titles.map(str::to_string).collect(), pad)
 }
 
-fn line_of(columns: &[String]) -> String {
+/// The last column, what padding did, is there only where it was asked for.
+fn line_of(mut columns: Vec<String>, pad: bool) -> String {
+    if !pad {
+        columns.pop();
+    }
     format!("{}\n", columns.join("\t"))
 }
 

@@ -8,8 +8,12 @@ use std::fs::{File, Metadata};
 use std::io::{self, ErrorKind, Read};
 use std::path::Path;
 
-/// One byte of record 100,000: what follows changes no verdict.
-const MOST: usize = LAST_RECORD * LINE + 1;
+/// The longest line that can be padded, with its end: 80 bytes, CR LF.
+const LONGEST: usize = LINE + 1;
+
+/// What follows changes no verdict. As the file stands, record 100,000 has
+/// begun; for the padding, a line is above 80 bytes or line 100,000 has begun.
+const MOST: usize = LAST_RECORD * LONGEST + 1;
 
 /// How much of a long file's rest is held at once.
 const PART: usize = 1 << 16;
@@ -31,16 +35,11 @@ impl Loaded {
 }
 
 /// Reads a file as far as a verdict needs it, so that a very long one fills
-/// no memory.
+/// no memory; `-` is standard input.
 pub fn load(path: &Path) -> Result<Loaded, Trouble> {
-    load_up_to(path, MOST)
-}
-
-/// Reads a file up to so many bytes; `-` is standard input.
-pub fn load_up_to(path: &Path, most: usize) -> Result<Loaded, Trouble> {
     if path == Path::new(STANDARD) {
         let mut bytes = Vec::new();
-        let read = io::stdin().lock().take(most as u64).read_to_end(&mut bytes);
+        let read = io::stdin().lock().take(MOST as u64).read_to_end(&mut bytes);
         read.map_err(Trouble::on(Path::new("standard input")))?;
         let length = bytes.len() as u64;
         return Ok(Loaded { bytes, length });
@@ -49,15 +48,15 @@ pub fn load_up_to(path: &Path, most: usize) -> Result<Loaded, Trouble> {
         let known = file.metadata()?;
         Ok((file, known))
     });
-    let read = opened.and_then(|(mut file, known)| read(&mut file, &known, most));
+    let read = opened.and_then(|(mut file, known)| read(&mut file, &known));
     read.map_err(Trouble::on(path))
 }
 
-fn read(file: &mut File, known: &Metadata, most: usize) -> io::Result<Loaded> {
+fn read(file: &mut File, known: &Metadata) -> io::Result<Loaded> {
     if known.is_dir() {
         return Err(ErrorKind::IsADirectory.into());
     }
-    let bytes = disk::read_up_to(file, known, most)?;
+    let bytes = disk::read_up_to(file, known, MOST)?;
     // A pipe or device has no length but that of what it gave.
     let length = known.len().max(bytes.len() as u64);
     Ok(Loaded { bytes, length })
@@ -70,7 +69,7 @@ pub fn load_and_digest(
     known: &Metadata,
     stop: impl Fn() -> bool,
 ) -> io::Result<Option<(Loaded, Digest)>> {
-    let loaded = read(file, known, MOST)?;
+    let loaded = read(file, known)?;
     let mut hasher = Hasher::new();
     hasher.add(&loaded.bytes);
     if loaded.bytes.len() == MOST {

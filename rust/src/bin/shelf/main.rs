@@ -1,4 +1,4 @@
-//! `shelf`: judges, shows, rewrites and moves deposited B-files, by the
+//! `shelf`: judges, shows, pads, rewrites and moves deposited B-files, by the
 //! proved library.
 //!
 //! Exit status: 0 all accepted, 1 something was refused, 2 the words of the
@@ -6,6 +6,7 @@
 
 mod arguments;
 mod check;
+mod deposit;
 mod disk;
 mod drafts;
 mod fields;
@@ -15,6 +16,7 @@ mod interrupt;
 mod json;
 mod ledger;
 mod load;
+mod making;
 mod moving;
 mod names;
 mod output;
@@ -23,7 +25,6 @@ mod pages;
 mod places;
 mod progress;
 mod report;
-mod rewrite;
 mod sheet;
 mod show;
 mod status;
@@ -54,9 +55,10 @@ fn main() -> ExitCode {
 fn run(command: Command, out: &mut dyn Write) -> Result<Status, Trouble> {
     let done = match command {
         Command::Check(order) => return check::run(&order, out),
-        Command::Sheet { file } => return sheet::run(&file, out),
-        Command::Show { file, record } => return show::run(&file, record, out),
-        Command::Rewrite(order) => return rewrite::run(&order, out),
+        Command::Sheet(file) => return sheet::run(&file, out),
+        Command::Show(file, record) => return show::run(&file, record, out),
+        Command::Pad(order) => return making::pad(&order, out),
+        Command::Rewrite(order) => return making::rewrite(&order, out),
         Command::Move(order) => return moving::run(&order, out),
         Command::Help(None) => help::overview(out),
         Command::Help(Some(verb)) => help::page(out, verb),

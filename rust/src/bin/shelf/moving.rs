@@ -2,17 +2,18 @@
 //! each accepted one in house style below NEW. Nothing below OLD is changed.
 
 use crate::arguments::Order;
+use crate::deposit::{self, Deposit};
 use crate::disk::{self, Folder, Id, Kept, Opened};
 use crate::house::Accepted;
 use crate::ledger::{self, Ledger, Outcome, Row, Rows, Unfinished, GROUPS};
-use crate::load::{self, Loaded};
+use crate::load;
 use crate::places::Places;
 use crate::progress::Progress;
 use crate::status::Status;
 use crate::trouble::Trouble;
 use crate::walk::{self, Entry, Found, Sort};
 use crate::{drafts, interrupt, names, report};
-use shelf::library::{self, Verdict};
+use shelf::library::Verdict;
 use shelf::sha256::Digest;
 use std::ffi::OsStr;
 use std::io::{self, Write};
@@ -30,9 +31,9 @@ pub fn run(order: &Order, out: &mut dyn Write) -> Result<Status, Trouble> {
     let is_standard = ledger::is_standard(&order.ledger);
     let mut error_output = io::stderr();
     let (mut ledger, report): (Ledger, Option<&mut dyn Write>) = if is_standard {
-        (Ledger::on(out), None)
+        (Ledger::on(out, order.pad), None)
     } else {
-        let ledger = Ledger::at(&order.ledger, order.replace, &found)?;
+        let ledger = Ledger::at(order, &found)?;
         (ledger, Some(out))
     };
     if let Some(reserved) = ledger.reserved() {
@@ -158,10 +159,11 @@ impl Mover<'_> {
             Sort::Other(why) => Outcome::NotJudged(why),
             Sort::Shut(trouble) => Outcome::Failed(trouble.to_string()),
             Sort::File => match self.loaded(&entry.name) {
-                Ok(Source::Loaded(loaded, digest, kept)) => {
-                    let mut row = self.judged(&entry.name, &loaded, kept);
-                    row.records_in = loaded.records();
+                Ok(Source::Loaded(deposit, digest, kept)) => {
+                    let mut row = self.judged(&entry.name, &deposit, kept);
+                    row.records_in = deposit.records;
                     row.digest_in = Some(digest);
+                    row.padding = deposit.padding;
                     return row;
                 }
                 Ok(Source::Not(outcome)) => outcome,
@@ -188,18 +190,21 @@ impl Mover<'_> {
         };
         let read = load::load_and_digest(&mut file, &known, interrupt::asked);
         Ok(match read.map_err(on())? {
-            Some((loaded, digest)) => Source::Loaded(loaded, digest, Kept::of(&known)),
+            Some((loaded, digest)) => {
+                let deposit = Deposit::of(loaded, self.order.pad);
+                Source::Loaded(deposit, digest, Kept::of(&known))
+            }
             None => Source::Not(Outcome::NotReached),
         })
     }
 
-    fn judged(&mut self, name: &Path, loaded: &Loaded, kept: Kept) -> Row {
-        let (verdict, house) = library::rewrite(&loaded.bytes);
-        if !verdict.is_accepted() {
-            return Row::new(name, Outcome::Refused(verdict.fault));
-        }
+    fn judged(&mut self, name: &Path, deposit: &Deposit, kept: Kept) -> Row {
+        let (verdict, house) = match deposit.ask(deposit::rewritten) {
+            Ok(rewritten) => rewritten,
+            Err(refusal) => return Row::new(name, Outcome::Refused(refusal)),
+        };
         let accepted = Accepted {
-            source: &loaded.bytes,
+            source: &deposit.bytes,
             verdict: &verdict,
             house: &house,
         };
@@ -286,7 +291,7 @@ impl Mover<'_> {
 
 /// A file below the old folder, at its turn.
 enum Source {
-    Loaded(Loaded, Digest, Kept),
+    Loaded(Deposit, Digest, Kept),
     Not(Outcome),
 }
 
@@ -341,14 +346,11 @@ fn not_moved(row: &Row, out: &mut dyn Write) -> io::Result<()> {
         Outcome::Moved | Outcome::ThereAlready | Outcome::NotWritten => Ok(()),
         // One line stands for all of them.
         Outcome::NotReached => Ok(()),
-        Outcome::Refused(fault) => writeln!(
-            out,
-            "{name}: refused, fault {}, record {}, column {}: {}",
-            fault.number,
-            fault.record,
-            fault.column,
-            report::meaning(*fault)
-        ),
+        Outcome::Refused(refusal) => {
+            let [headline, meaning] = [report::headline(refusal), report::meaning(refusal)];
+            writeln!(out, "{name}: {headline}: {meaning}")?;
+            report::advise(out, refusal, report::ACCEPTED)
+        }
         other => writeln!(out, "{name}: {}", other.in_words()),
     }
 }

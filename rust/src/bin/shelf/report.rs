@@ -1,10 +1,9 @@
 //! Verdicts in words, with the record and a caret under the column.
 
+use crate::deposit::{Deposit, Padding, Refusal};
 use crate::fields::{self, KIND_NAMES};
-use crate::load::Loaded;
 use crate::names;
-use crate::trouble::Trouble;
-use shelf::library::{Fault, Verdict, KINDS, LINE};
+use shelf::library::{Fault, KINDS, LINE};
 use std::io::{self, Write};
 use std::path::Path;
 
@@ -26,27 +25,36 @@ const MEANINGS: [&str; 14] = [
     "there is no such record",
 ];
 
-pub fn meaning(fault: Fault) -> &'static str {
-    let number = fault.number as usize;
-    MEANINGS.get(number).copied().unwrap_or("an unknown fault")
-}
+/// What padding would do for a whole file.
+pub const ACCEPTED: &str = "it would be accepted";
 
-/// Says what the verdict on a file is.
-pub fn verdict(
-    out: &mut dyn Write,
-    path: &Path,
-    loaded: &Loaded,
-    verdict: &Verdict,
-) -> Result<(), Trouble> {
-    if verdict.is_accepted() {
-        accepted(out, path, &verdict.counts)
-    } else {
-        refused(out, path, &loaded.bytes, verdict.fault)
+pub fn meaning(refusal: &Refusal) -> String {
+    let Fault { number, record, .. } = refusal.fault;
+    match (refusal.is_by_padding(), number) {
+        (true, 2) => "a line 100,000 has begun, so the file cannot be padded".to_string(),
+        (true, 5) => format!("line {record} has more than 80 bytes, so the file cannot be padded"),
+        _ => {
+            let meaning = MEANINGS.get(number as usize).copied();
+            meaning.unwrap_or("an unknown fault").to_string()
+        }
     }
-    .map_err(Trouble::standard_output)
 }
 
-fn accepted(out: &mut dyn Write, path: &Path, counts: &[u32; 14]) -> io::Result<()> {
+/// Who refused, with number, record or line, and column.
+pub fn headline(refusal: &Refusal) -> String {
+    let Fault {
+        number,
+        record,
+        column,
+    } = refusal.fault;
+    let (by, place) = match refusal.is_by_padding() {
+        true => (" by the padding", "line"),
+        false => ("", "record"),
+    };
+    format!("refused{by}, fault {number}, {place} {record}, column {column}")
+}
+
+pub fn accepted(out: &mut dyn Write, path: &Path, counts: &[u32; 14]) -> io::Result<()> {
     let records: u32 = counts.iter().sum();
     write!(out, "{}: accepted, {records} records:", names::shown(path))?;
     for (code, count) in KINDS.iter().zip(counts) {
@@ -57,27 +65,56 @@ fn accepted(out: &mut dyn Write, path: &Path, counts: &[u32; 14]) -> io::Result<
     writeln!(out)
 }
 
-/// A refusal: number, record and column, what it means, and the record.
-pub fn refused(out: &mut dyn Write, path: &Path, file: &[u8], fault: Fault) -> io::Result<()> {
-    let Fault {
-        number,
-        record,
-        column,
-    } = fault;
-    let name = names::shown(path);
-    writeln!(
-        out,
-        "{name}: refused, fault {number}, record {record}, column {column}"
-    )?;
-    writeln!(out, "    {}", explained(file, fault))?;
-    if column > 0 {
-        drawn(out, file, record, column)?;
-    }
-    Ok(())
+/// The refusal of a whole file, with advice.
+pub fn refused_file(
+    out: &mut dyn Write,
+    path: &Path,
+    deposit: &Deposit,
+    refusal: &Refusal,
+) -> io::Result<()> {
+    refused(out, path, deposit, refusal)?;
+    advise(out, refusal, ACCEPTED)
 }
 
-/// The meaning of a fault, with what can be said of this one.
-pub fn explained(file: &[u8], fault: Fault) -> String {
+/// A refusal: number, record and column, what it means, and the record.
+pub fn refused(
+    out: &mut dyn Write,
+    path: &Path,
+    deposit: &Deposit,
+    refusal: &Refusal,
+) -> io::Result<()> {
+    let Fault { record, column, .. } = refusal.fault;
+    let file = &deposit.bytes;
+    writeln!(out, "{}: {}", names::shown(path), headline(refusal))?;
+    writeln!(out, "    {}", explained(file, refusal))?;
+    let line = match refusal.is_by_padding() {
+        true => line_as_it_stands(file, record),
+        false => line(file, record),
+    };
+    drawn(out, line, column)
+}
+
+/// Puts the advice, if there is any, under a refusal.
+pub fn advise(out: &mut dyn Write, refusal: &Refusal, then: &str) -> io::Result<()> {
+    match advice(refusal, then) {
+        Some(advice) => writeln!(out, "    {advice}"),
+        None => Ok(()),
+    }
+}
+
+/// What is said where padding would have helped; `then` is what it would do.
+pub fn advice(refusal: &Refusal, then: &str) -> Option<String> {
+    let helps = refusal.padding == Some(Padding::WouldHelp);
+    helps.then(|| format!("with --pad, which fills its lines to 80 columns, {then}"))
+}
+
+/// The meaning of a refusal, with what can be said of this one.
+pub fn explained(file: &[u8], refusal: &Refusal) -> String {
+    let meaning = meaning(refusal);
+    if refusal.is_by_padding() {
+        return meaning;
+    }
+    let fault = refusal.fault;
     let line = line(file, fault.record);
     let detail = match fault.number {
         3 => Some(format!("it has {} bytes", fault.column - 1)),
@@ -92,8 +129,8 @@ pub fn explained(file: &[u8], fault: Fault) -> String {
         _ => None,
     };
     match detail {
-        Some(detail) => format!("{}: {detail}", meaning(fault)),
-        None => meaning(fault).to_string(),
+        Some(detail) => format!("{meaning}: {detail}"),
+        None => meaning,
     }
 }
 
@@ -145,10 +182,9 @@ pub fn columns(first: u32, last: u32) -> String {
     }
 }
 
-/// The record as it stands, and a caret under the column.
-fn drawn(out: &mut dyn Write, file: &[u8], record: u32, column: u32) -> io::Result<()> {
-    let line = line(file, record);
-    if line.is_empty() {
+/// The line's 80 columns, and a caret under the one that is meant.
+fn drawn(out: &mut dyn Write, line: &[u8], column: u32) -> io::Result<()> {
+    if line.is_empty() || column == 0 {
         return Ok(());
     }
     let shown: String = line
@@ -168,4 +204,12 @@ fn line(file: &[u8], record: u32) -> &[u8] {
     let start = LINE * (record as usize).saturating_sub(1);
     let rest = file.get(start..).unwrap_or(b"");
     &rest[..rest.len().min(LINE)]
+}
+
+/// A line of a file that the padding refused, without its end.
+fn line_as_it_stands(file: &[u8], number: u32) -> &[u8] {
+    let mut lines = file.split_inclusive(|byte| *byte == b'\n');
+    let line = lines.nth(number as usize - 1).unwrap_or(b"");
+    let ended = line.strip_suffix(b"\r\n").or(line.strip_suffix(b"\n"));
+    ended.unwrap_or(line)
 }

@@ -1,7 +1,8 @@
 //! `shelf show FILE RECORD`: one record's values with their units.
 
+use crate::arguments::Single;
+use crate::deposit::{Deposit, Refusal};
 use crate::fields::{self, Field, Form, KIND_NAMES};
-use crate::load::load;
 use crate::status::Status;
 use crate::trouble::Trouble;
 use crate::{names, report};
@@ -14,23 +15,32 @@ const DEGREE: u64 = 60 * MINUTE;
 const MINUTE: u64 = 60 * SECOND;
 const SECOND: u64 = 100_000;
 
-pub fn run(path: &Path, number: u32, out: &mut dyn Write) -> Result<Status, Trouble> {
-    let loaded = load(path)?;
-    match library::read(&loaded.bytes, number) {
+pub fn run(order: &Single, number: u32, out: &mut dyn Write) -> Result<Status, Trouble> {
+    let path = &order.file;
+    let deposit = Deposit::load(path, order.pad)?;
+    match deposit.ask(|file| library::read(file, number)) {
         Ok(record) => {
-            show(out, path, &loaded.bytes, number, &record).map_err(Trouble::standard_output)?;
+            show(out, path, &deposit.bytes, number, &record).map_err(Trouble::standard_output)?;
             Ok(Status::Accepted)
         }
-        Err(fault) => {
-            report::refused(out, path, &loaded.bytes, fault).map_err(Trouble::standard_output)?;
-            if fault.number == 13 {
-                let records = loaded.records();
-                writeln!(out, "    the file has {records} whole records")
-                    .map_err(Trouble::standard_output)?;
-            }
+        Err(refusal) => {
+            refused(out, path, &deposit, &refusal).map_err(Trouble::standard_output)?;
             Ok(Status::Refused)
         }
     }
+}
+
+fn refused(
+    out: &mut dyn Write,
+    path: &Path,
+    deposit: &Deposit,
+    refusal: &Refusal,
+) -> io::Result<()> {
+    report::refused(out, path, deposit, refusal)?;
+    if refusal.fault.number == 13 {
+        writeln!(out, "    the file has {} whole records", deposit.records)?;
+    }
+    report::advise(out, refusal, "the record could be shown")
 }
 
 fn show(

@@ -1,0 +1,4 @@
+-- What the promises of pad and of a call after it say together.
+pub mod OverPadded  -- check and rewrite go by the padded file alone
+pub mod Trimmed  -- trimming and line ends make no difference
+pub mod Accepted  -- an accepted file is padded to itself

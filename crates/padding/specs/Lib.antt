@@ -1,0 +1,3 @@
+-- What pad promises, and what the promises of `padding` cite besides the rules.
+pub mod Lines  -- one line found in its bytes
+pub mod Promise  -- the call
