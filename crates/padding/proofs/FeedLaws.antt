@@ -1,7 +1,7 @@
 -- Where the first LF stands: byte by byte, and five bytes at a time.
 use mathlib.Core.Path.{_≡_, refl, sym, _∙_, ap}
 use mathlib.Core.Logic.{_⊎_, inl, inr}
-use mathlib.Core.Bool.{true, false, cond, not, false≢true, true≢false}
+use mathlib.Core.Bool.{true, false, not, false≢true, true≢false}
 use mathlib.Core.List.{List, [], _∷_, _++_}
 use Prim.Native.Nat.{ℕ, zero, suc, _+_, _-_, _%_, _≤_, _<_}
 use native.Mathlib.Nat.{le-trans}

@@ -33,7 +33,7 @@ pub judged-on : (r : ℕ) (t : List ℕ) (ts : List (List ℕ)) → r ≤ 99_999
 unfolding judgeTexts inRecord check _⨾_
 judged-on r t ts h k = rw (of≤ h, of≤ k)
 
-no-texts : (f : List ℕ) (at : ℕ) → length f ≤ at → texts (drop at f) ≡ []
+pub no-texts : (f : List ℕ) (at : ℕ) → length f ≤ at → texts (drop at f) ≡ []
 no-texts f at h = ap texts (drop-of-length-le f h) ∙ (unfold texts linesOf in refl)
 
 -- ---- where the line is that starts at a place
@@ -52,11 +52,11 @@ module _ (f : List ℕ) (at : ℕ) (h : at < length f) where
       pub text-there : k ≤ length w
       text-there = le-trans (rw ek (text-most w n)) feed-there
 
-      next-text : k ≤ 80 → texts (drop at f) ≡ take k w ∷ texts (drop (at + (n + 1)) f)
+      pub next-text : k ≤ 80 → texts (drop at f) ≡ take k w ∷ texts (drop (at + (n + 1)) f)
       next-text l = fitting-text (drop at f) some w ew n en k ek l ∙ ap (λ g. take k w ∷ texts g) (drop-drop (n + 1) at f)
 
-      size : length (take k w) ≡ k
-      size = length-take-le k w text-there
+      pub text-size : length (take k w) ≡ k
+      text-size = length-take-le k w text-there
 
 -- ---- the first pass
 pub record Judging (f : List ℕ) (at lines : ℕ) : Type 0 where
@@ -110,7 +110,7 @@ module _ (f : List ℕ) (at lines : ℕ) (g : Judging f at lines) where
           record {
             few = below;
             within = next-within f at h w ew n en;
-            verdict = sym (judged-on (lines + 1) (take k w) _ below (omega (arith, size f at h w ew n en k ek))) ∙ ap (judgeTexts (lines + 1)) (sym e) ∙ g .verdict;
+            verdict = sym (judged-on (lines + 1) (take k w) _ below (omega (arith, text-size f at h w ew n en k ek))) ∙ ap (judgeTexts (lines + 1)) (sym e) ∙ g .verdict;
             count = omega (arith, g .count, ap length e);
           }
 
@@ -168,7 +168,7 @@ module _ (f o₀ o : List ℕ) (at a : ℕ) (g : Laying f o₀ o at a) where
         width = omega arith
 
         long : length s ≡ 81
-        long = ap length es ∙ line-81 (take k w) (omega (arith, size f at h w ew n en k ek, lay-few))
+        long = ap length es ∙ line-81 (take k w) (omega (arith, text-size f at h w ew n en k ek, lay-few))
 
         more : take a o ++ (s ++ join (map paddedLine (texts (drop (at + (n + 1)) f)))) ≡ padded f
         more = ap (λ t. take a o ++ (t ++ join (map paddedLine (texts (drop (at + (n + 1)) f))))) es ∙ (unfold join in (rw next at (g .laid)))

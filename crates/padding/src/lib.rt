@@ -1,7 +1,9 @@
 // Deposits with trimmed lines: each line filled with blanks to 80 columns and ended by one line feed, into a lent output.
+mod counting;
 mod laying;
 mod lines;
 
+use crate::counting::count_lines;
 use crate::laying::COLUMNS;
 use crate::laying::lay_line;
 use crate::lines::feed_at;
@@ -71,6 +73,16 @@ fn judge_lines(input: &[u8]) -> Padded
     good(lines)
 }
 
+fn judge(input: &[u8]) -> Padded
+    ensures { λ v. ⌜ v ≡ paddedOf (padAnswerBy (judgeTexts 1 (texts (now (input .entry)))) (length (texts (now (input .entry))))) ⌝ }
+{
+    let lines = count_lines(input);
+    if lines != 0 {
+        return good(lines);
+    }
+    judge_lines(input)
+}
+
 fn lay_lines(input: &[u8], columns: &[u8; 80], out: &mut [u8])
     requires { ⌜ (now columns ≡ counted) × (judgeTexts 1 (texts (now input)) ≡ accept) × (81 * length (texts (now input)) ≤ length (now out)) ⌝ }
     ensures { λ _. ⌜ now (out .exit) ≡ padded (now (input .entry)) ++ drop (81 * length (texts (now (input .entry)))) (now (out .entry)) ⌝ }
@@ -93,7 +105,7 @@ fn lay_lines(input: &[u8], columns: &[u8; 80], out: &mut [u8])
 pub fn pad(input: &[u8], out: &mut [u8]) -> Padded
     ensures { λ v. ⌜ Promised (now (input .entry)) (now (out .entry)) v (now (out .exit)) ⌝ }
 {
-    let v = judge_lines(input);
+    let v = judge(input);
     if v.fault.number != 0 {
         return v;
     }

@@ -275,7 +275,7 @@ passed-short r (t ∷ ts) h k =
     let rest = passed-short (r + 1) ts (parts .1) (omega (arith, to≤ (both (parts .0) .0))) in
     (and (both (parts .0) .1) (rest .0), omega (arith, rest .1))
 
-short-passed : (r : ℕ) (ts : List (List ℕ)) → AllShort ts → r + length ts ≤ 100_000 → isAccept (judgeTexts r ts) ≡ true
+pub short-passed : (r : ℕ) (ts : List (List ℕ)) → AllShort ts → r + length ts ≤ 100_000 → isAccept (judgeTexts r ts) ≡ true
 unfolding all
 short-passed r [] h k = unfold judgeTexts isAccept in refl
 short-passed r (t ∷ ts) h k =

@@ -30,26 +30,20 @@ part-lay-line-end c = search (lay-room, needs)
 lay-line-requires : tie.Need-lay-line-requires Inv-loop μ-loop
 lay-line-requires c κs = (search (text-there, needs), search (lay-few, needs), search needs, search (lay-wide, needs))
 
+-- the next line starts at most one byte behind the end
+next : (c : tie.After-slice-known2 Inv-loop μ-loop)
+    → c .before .before .before .before .before .before .before .before .loop .at + (c .before .before .before .before .before .feed-at .result + 1)
+    ≤ length (c .before .before .before .before .before .before .before .before .before .before .before .args .input .now) + 1
+next c = search (next-within, needs)
+
 add-at : tie.Need-add-at Inv-loop μ-loop
-add-at c =
-    let s = c .before .before .before .before .before .before .before .before in
-    let n = c .before .before .before .before .before .feed-at .result in
-    let next : s .loop .at + (n + 1) ≤ length (s .before .before .before .args .input .now) + 1 = search (next-within, needs) in
-    omega arith
+add-at c = let h = next c in omega arith
 
 add-at-2 : tie.Need-add-at-2 Inv-loop μ-loop
-add-at-2 c =
-    let s = c .before .before .before .before .before .before .before .before in
-    let n = c .before .before .before .before .before .feed-at .result in
-    let next : s .loop .at + (n + 1) ≤ length (s .before .before .before .args .input .now) + 1 = search (next-within, needs) in
-    omega arith
+add-at-2 c = let h = next c in omega arith
 
 loop-less : tie.Need-loop-less Inv-loop μ-loop
-loop-less c =
-    let s = c .before .before .before .before .before .before .before .before in
-    let n = c .before .before .before .before .before .feed-at .result in
-    let next : s .loop .at + (n + 1) ≤ length (s .before .before .before .args .input .now) + 1 = search (next-within, needs) in
-    omega arith
+loop-less c = let h = next c in omega arith
 
 loop-again : tie.Need-loop-again Inv-loop μ-loop
 loop-again c = (search needs, search (lay-next, needs))
