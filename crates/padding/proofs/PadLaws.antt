@@ -59,14 +59,14 @@ module _ (f o : List ℕ) where
           go (refuse n r c) e =
               absurd (omega (arith, number-is n r c e, above-zero f (length o) n r c (unfold PadFirst in (refused-first f (length o) n r c (verdict-refused n r c e) .0))))
 
-      count : v .lines ≡ length (texts f)
+      pub count : v .lines ≡ length (texts f)
       count = ap (λ (y : Padded). y .lines) (judged-as accept good-lines) ∙ (unfold paddedOf padAnswerBy in refl)
 
       pub narrow : length o / 81 < v .lines → (x : Padded) → x ≡ paddedOf (padAnswerBy (refuse 1 0 0) 0) → Promised f o x o
       narrow h x e = refused x 1 0 0 0 e (verdict-narrow good-lines (omega (arith, count)))
 
-      pub enough : v .lines ≤ length o / 81 → 81 * length (texts f) ≤ length o
-      enough h = omega (arith, count)
+      pub before : (near : ℕ) → near ≤ length (texts f) → near ≤ v .lines
+      before near h = omega (arith, count)
 
-      pub laid : v .lines ≤ length o / 81 → (p : List ℕ) → p ≡ padded f ++ drop (81 * length (texts f)) o → Promised f o v p
-      laid h p e = taken v p (judged-as accept good-lines) e (verdict-good good-lines (enough h))
+      pub laid : v .lines ≤ length o / 81 → (p : List ℕ) → p ≡ padded f ++ drop (81 * v .lines) o → Promised f o v p
+      laid h p e = taken v p (judged-as accept good-lines) (e ∙ ap (λ n. padded f ++ drop (81 * n) o) count) (verdict-good good-lines (omega (arith, count)))

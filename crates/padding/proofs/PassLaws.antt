@@ -1,19 +1,15 @@
--- The two passes over the lines: what is left to do from here, with what was done, is what was to do at the start.
+-- From one line to the next, and the judge that goes so: the verdict on what is left from here is the verdict on all.
 use mathlib.Core.Path.{_≡_, refl, sym, _∙_, ap, ap₂}
-use mathlib.Core.Bool.{true}
-use mathlib.Core.List.{List, [], _∷_, _++_, append-assoc, append-nil, map}
-use Prim.Native.Nat.{ℕ, _+_, _-_, _*_, _≤_, _<_}
+use mathlib.Core.List.{List, [], _∷_}
+use Prim.Native.Nat.{ℕ, _+_, _-_, _≤_, _<_}
 use native.Mathlib.Nat.{le-trans}
 use native.Mathlib.Omega.{arith}
-use lib.ListN.{length, length-take, length-drop, take, drop, take-append-drop, drop-of-length-le}
+use lib.ListN.{length, length-take, length-drop, take, drop, drop-of-length-le}
 use lib.Seq.{drop-drop, length-take-le}
-use Rattle.rules.specs.Tests.{all, _≤?_}
 use Rattle.rules.specs.Fields.{check, _⨾_}
-use Rattle.rules.specs.Files.{Result, accept, refuse, inRecord, join}
-use Rattle.rules.specs.Padding.{linesOf, texts, paddedLine, padded, judgeTexts, padAnswerBy}
-use Rattle.rules.proofs.Truth.{both, to≤, of≤, of>, no≤, cases}
-use Rattle.rules.proofs.FileLaws.{laid-take, laid-drop, laid-size}
-use Rattle.rules.proofs.PaddingLaws.{line-81, short-texts}
+use Rattle.rules.specs.Files.{Result, accept, refuse, inRecord}
+use Rattle.rules.specs.Padding.{linesOf, texts, judgeTexts, padAnswerBy}
+use Rattle.rules.proofs.Truth.{of≤, of>}
 use Rattle.padding.specs.declared.Padded.{Padded}
 use Rattle.padding.specs.Lines.{feedAt, textLength}
 use Rattle.padding.specs.Promise.{paddedOf}
@@ -37,6 +33,10 @@ pub no-texts : (f : List ℕ) (at : ℕ) → length f ≤ at → texts (drop at 
 no-texts f at h = ap texts (drop-of-length-le f h) ∙ (unfold texts linesOf in refl)
 
 -- ---- where the line is that starts at a place
+-- the 82 bytes in which it is looked for
+pub window : (f : List ℕ) (at : ℕ) → take (at + 82 - at) (drop at f) ≡ take 82 (drop at f)
+window f at = let width : at + 82 - at ≡ 82 = omega arith in ap (λ m. take m (drop at f)) width
+
 module _ (f : List ℕ) (at : ℕ) (h : at < length f) where
   some : 0 < length (drop at f)
   some = omega (arith, length-drop at f)
@@ -58,7 +58,7 @@ module _ (f : List ℕ) (at : ℕ) (h : at < length f) where
       pub text-size : length (take k w) ≡ k
       text-size = length-take-le k w text-there
 
--- ---- the first pass
+-- ---- line by line
 pub record Judging (f : List ℕ) (at lines : ℕ) : Type 0 where
   pub few : lines ≤ 99_999
   pub within : at ≤ length f + 1
@@ -113,71 +113,3 @@ module _ (f : List ℕ) (at lines : ℕ) (g : Judging f at lines) where
             verdict = sym (judged-on (lines + 1) (take k w) _ below (omega (arith, text-size f at h w ew n en k ek))) ∙ ap (judgeTexts (lines + 1)) (sym e) ∙ g .verdict;
             count = omega (arith, g .count, ap length e);
           }
-
--- ---- the second pass
-short-parts : (t : List ℕ) (ts us : List (List ℕ)) → us ≡ t ∷ ts → all (λ x. length x ≤? 80) us ≡ true → (length t ≤ 80) × (all (λ x. length x ≤? 80) ts ≡ true)
-unfolding all
-short-parts t ts us e h = let x = both (rw e at h) in (to≤ (x .0), x .1)
-
-pub record Laying (f o₀ o : List ℕ) (at a : ℕ) : Type 0 where
-  pub within : at ≤ length f + 1
-  pub size : length o ≡ length o₀
-  pub few : all (λ t. length t ≤? 80) (texts (drop at f)) ≡ true
-  pub room : 81 * length (texts f) ≤ length o₀
-  pub count : a + 81 * length (texts (drop at f)) ≡ 81 * length (texts f)
-  pub laid : take a o ++ join (map paddedLine (texts (drop at f))) ≡ padded f
-  pub rest : drop a o ≡ drop a o₀
-
-pub lay-from : (f o : List ℕ) → judgeTexts 1 (texts f) ≡ accept → 81 * length (texts f) ≤ length o → Laying f o o 0 0
-unfolding padded
-lay-from f o e h = record { within = omega arith; size = refl; few = short-texts f e .0; room = h; count = omega arith; laid = refl; rest = refl }
-
-module _ (f o₀ o : List ℕ) (at a : ℕ) (g : Laying f o₀ o at a) where
-  module _ (h : at < length f) (w : List ℕ) (ew : w ≡ take 82 (drop at f)) (n : ℕ) (en : n ≡ feedAt w) (k : ℕ) (ek : k ≡ textLength w n) where
-    pub lay-few : k ≤ 80
-    lay-few = cases (k ≤? 80) to≤ (λ e. absurd (long (no≤ e)))
-      where
-        long : 80 < k → ⊥
-        long l =
-            let x = long-text (drop at f) (some f at h) w ew n en k ek l in
-            omega (arith, x .3, short-parts (x .0) (x .1) (texts (drop at f)) (x .2) (g .few) .0)
-
-    next : texts (drop at f) ≡ take k w ∷ texts (drop (at + (n + 1)) f)
-    next = next-text f at h w ew n en k ek lay-few
-
-    pub lay-room : a + 81 ≤ length o
-    lay-room = omega (arith, g .count, g .room, g .size, ap length next)
-
-    pub lay-wide : length (take (a + 81 - a) (drop a o)) ≡ 81
-    lay-wide =
-        let width : a + 81 - a ≡ 81 = omega arith in
-        rw width (length-take-le 81 (drop a o) (omega (arith, lay-room, length-drop a o)))
-
-    pub lay-next : (s : List ℕ) → s ≡ paddedLine (take k w) → Laying f o₀ (take a o ++ (s ++ drop (a + 81 - a) (drop a o))) (at + (n + 1)) (a + 81)
-    lay-next s es = rw width record {
-      within = next-within f at h w ew n en;
-      size = laid-size o a s long lay-room ∙ g .size;
-      few = short-parts (take k w) _ (texts (drop at f)) next (g .few) .1;
-      room = g .room;
-      count = omega (arith, g .count, ap length next);
-      laid = ap (λ t. t ++ join (map paddedLine (texts (drop (at + (n + 1)) f)))) (laid-take o a s long lay-room) ∙ append-assoc (take a o) s _ ∙ more;
-      rest = laid-drop o a s long lay-room ∙ behind;
-    }
-      where
-        width : a + 81 - a ≡ 81
-        width = omega arith
-
-        long : length s ≡ 81
-        long = ap length es ∙ line-81 (take k w) (omega (arith, text-size f at h w ew n en k ek, lay-few))
-
-        more : take a o ++ (s ++ join (map paddedLine (texts (drop (at + (n + 1)) f)))) ≡ padded f
-        more = ap (λ t. take a o ++ (t ++ join (map paddedLine (texts (drop (at + (n + 1)) f))))) es ∙ (unfold join in (rw next at (g .laid)))
-
-        behind : drop (a + 81) o ≡ drop (a + 81) o₀
-        behind = sym (drop-drop 81 a o) ∙ ap (drop 81) (g .rest) ∙ drop-drop 81 a o₀
-
-  pub lay-done : length f ≤ at → o ≡ padded f ++ drop (81 * length (texts f)) o₀
-  lay-done h =
-      let none : take a o ++ [] ≡ padded f = unfold join in (rw (no-texts f at h) at (g .laid)) in
-      let all-laid : a ≡ 81 * length (texts f) = omega (arith, g .count, ap length (no-texts f at h)) in
-      sym (take-append-drop a o) ∙ ap₂ _++_ (sym (append-nil (take a o)) ∙ none) (g .rest ∙ ap (λ j. drop j o₀) all-laid)

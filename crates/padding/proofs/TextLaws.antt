@@ -1,14 +1,14 @@
 -- The first line of an input, and the same in 82 bytes of it: in these a line of at most 80 bytes stands with its end, and a longer one is told.
 use mathlib.Core.Path.{_≡_, refl, sym, _∙_, ap, ap₂}
 use mathlib.Core.Bool.{true, false, cond}
-use mathlib.Core.List.{List, [], _∷_, map}
+use mathlib.Core.List.{List, [], _∷_, _++_, map, map-append}
 use Prim.Native.Nat.{ℕ, zero, suc, _+_, _-_, _≤_, _<_}
 use native.Mathlib.Nat.{le-trans}
 use native.Mathlib.Omega.{arith}
-use lib.ListN.{length, getD, take, drop}
-use lib.Seq.{length-take-le, take-all, take-take, getD-take}
+use lib.ListN.{length, getD, take, drop, take-append-drop}
+use lib.Seq.{length-take-le, take-suc, take-all, take-take, getD-take}
 use Rattle.rules.specs.Tests.{_≤?_, _=?_}
-use Rattle.rules.specs.Padding.{End, lf, crlf, closing, line, behind, joined, linesOf, texts}
+use Rattle.rules.specs.Padding.{End, lf, crlf, closing, Line, line, behind, joined, linesOf, texts}
 use Rattle.rules.proofs.Truth.{of≤, of>, to≤, no≤, of≡, of≢, cases}
 use Rattle.padding.specs.Lines.{feedAt, textLength}
 use Rattle.padding.proofs.FeedLaws.{feed-most}
@@ -131,6 +131,53 @@ first-line (b ∷ c ∷ f) h = cases (b =? 10) (λ e. rw e (empty-first b (c ∷
 pub first-text : (f : List ℕ) → 0 < length f → texts f ≡ take (textLength f (feedAt f)) f ∷ texts (drop (feedAt f + 1) f)
 unfolding texts line
 first-text f h = ap (map (λ l. l .text)) (first-line f h)
+
+-- ---- an input in two parts, the first of which ends with an LF
+joined-some : (b : ℕ) (ls : List Line) → 0 < length (joined b ls)
+unfolding joined
+joined-some b [] = omega arith
+joined-some b (l ∷ ls) = omega arith
+
+lines-some : (b : ℕ) (f : List ℕ) → 0 < length (linesOf (b ∷ f))
+unfolding linesOf
+lines-some b f = cases (b =? 10) (λ e. rw e (omega arith)) (λ e. rw e (joined-some b (linesOf f)))
+
+joined-append : (b : ℕ) (ls ms : List Line) → 0 < length ls → joined b (ls ++ ms) ≡ joined b ls ++ ms
+unfolding joined
+joined-append b [] ms h = absurd (omega arith)
+joined-append b (l ∷ ls) ms h = refl
+
+-- a byte more before the first part
+lines-behind : (b : ℕ) (f g : List ℕ) → 0 < length (linesOf f) → linesOf (f ++ g) ≡ linesOf f ++ linesOf g → linesOf (b ∷ (f ++ g)) ≡ linesOf (b ∷ f) ++ linesOf g
+unfolding linesOf
+lines-behind b f g some e =
+    cases (b =? 10)
+    (λ t. rw t (ap (line [] lf ∷_) e))
+    (λ t. rw t (ap (joined b) e ∙ joined-append b (linesOf f) (linesOf g) some))
+
+fed-some : (f : List ℕ) → 0 < length (linesOf (f ++ (10 ∷ [])))
+fed-some [] = lines-some 10 []
+fed-some (b ∷ f) = lines-some b (f ++ (10 ∷ []))
+
+lines-split : (f g : List ℕ) → linesOf ((f ++ (10 ∷ [])) ++ g) ≡ linesOf (f ++ (10 ∷ [])) ++ linesOf g
+lines-split [] g = unfold linesOf _=?_ in refl
+lines-split (b ∷ f) g = lines-behind b (f ++ (10 ∷ [])) g (fed-some f) (lines-split f g)
+
+module _ (f : List ℕ) (start : ℕ) (some : 1 ≤ start) (h : start ≤ length f) (e : getD f (start - 1) 0 ≡ 10) where
+  take-fed : take start f ≡ take (start - 1) f ++ (10 ∷ [])
+  take-fed =
+      let last : start ≡ suc (start - 1) = omega arith in
+      ap (λ k. take k f) last ∙ take-suc f (start - 1) 0 (omega arith) ∙ ap (λ b. take (start - 1) f ++ (b ∷ [])) e
+
+  lines-cut : linesOf (take start f ++ drop start f) ≡ linesOf (take start f) ++ linesOf (drop start f)
+  lines-cut = rw take-fed (lines-split (take (start - 1) f) (drop start f))
+
+  -- the lines of an input are those before a start of a line and those from there on
+  pub texts-split : texts f ≡ texts (take start f) ++ texts (drop start f)
+  unfolding texts
+  texts-split =
+      ap (map (λ l. l .text)) (ap linesOf (sym (take-append-drop start f)) ∙ lines-cut)
+      ∙ map-append (λ l. l .text) (linesOf (take start f)) (linesOf (drop start f))
 
 -- ---- the same in 82 bytes
 feed-near : (m : ℕ) (f : List ℕ) → feedAt f < m → feedAt (take m f) ≡ feedAt f

@@ -1,8 +1,8 @@
 -- One line found in the bytes in which it stands: what the functions on one line promise.
 use mathlib.Core.Bool.{Bool, cond, not}
-use mathlib.Core.List.{List, [], _∷_}
+use mathlib.Core.List.{List, [], _∷_, _++_}
 use Prim.Native.Nat.{ℕ, zero, suc, _+_}
-use lib.ListN.{length, getD}
+use lib.ListN.{length, replicate, getD}
 use Rattle.rules.specs.Tests.{all, _≤?_, _=?_}
 
 -- how many bytes stand before the first LF
@@ -31,15 +31,13 @@ nearest bs i =
     or i (or (16 + i) (or (32 + i) (or (48 + i) (or (64 + i) 80))))
 
 -- ---- a line in its columns
--- n numbers in their order, from i on
-unfoldable pub countFrom : ℕ → ℕ → List ℕ
-countFrom i zero = []
-countFrom i (suc n) = i ∷ countFrom (i + 1) n
+unfoldable pub larger : ℕ → ℕ → ℕ
+larger a b = cond (a ≤? b) b a
 
--- the 80 columns, from the blank on
-unfoldable pub counted : List ℕ
-counted = countFrom 32 80
+-- what stands in a column: of the line's byte as much as is kept, else the blank
+unfoldable pub columnOf : (b kept blank : ℕ) → ℕ
+columnOf b kept blank = larger (lesser b kept) blank
 
--- what stands in a column: the line's byte, or a blank from its end on
-unfoldable pub columnOf : (b column end : ℕ) → ℕ
-columnOf b column end = cond (suc column ≤? end) b 32
+-- 80 columns that keep a byte, 80 that keep none, 80 blanks
+unfoldable pub maskBytes : List ℕ
+maskBytes = replicate 80 255 ++ (replicate 80 0 ++ replicate 80 32)

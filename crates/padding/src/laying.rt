@@ -1,61 +1,64 @@
 // One line laid into 81 bytes of the output.
+use crate::lines::lesser_of;
 use columns::parts::byte_at;
 ghost use mathlib.Core.Path.{_≡_};
 ghost use Prim.Native.Nat.{_≤_};
 ghost use lib.ListN.{length, take};
 ghost use Rattle.rules.specs.Padding.{paddedLine};
-ghost use Rattle.padding.specs.Lines.{columnOf, counted};
+ghost use Rattle.padding.specs.Lines.{columnOf, larger, maskBytes};
 
-// The 80 columns in their order, as the characters from the blank on: lent from above, so that many are compared at once.
-pub(crate) const COLUMNS: [u8; 80] =
-    *b" !\"#$%&'()*+,-./0123456789:;<=>?@ABCDEFGHIJKLMNOPQRSTUVWXYZ[\\]^_`abcdefghijklmno";
+// Three times 80 columns: such as keep a line's byte, such as keep nothing, and blanks. Of a line of n bytes the 80 from 80 - n on say what
+// is kept of its bytes, and the 80 behind them what stands where nothing is kept: lent from above, so that many columns are laid at once.
+pub(crate) const MASKS: [u8; 240] = *b"\
+    \xff\xff\xff\xff\xff\xff\xff\xff\xff\xff\xff\xff\xff\xff\xff\xff\xff\xff\xff\xff\
+    \xff\xff\xff\xff\xff\xff\xff\xff\xff\xff\xff\xff\xff\xff\xff\xff\xff\xff\xff\xff\
+    \xff\xff\xff\xff\xff\xff\xff\xff\xff\xff\xff\xff\xff\xff\xff\xff\xff\xff\xff\xff\
+    \xff\xff\xff\xff\xff\xff\xff\xff\xff\xff\xff\xff\xff\xff\xff\xff\xff\xff\xff\xff\
+    \x00\x00\x00\x00\x00\x00\x00\x00\x00\x00\x00\x00\x00\x00\x00\x00\x00\x00\x00\x00\
+    \x00\x00\x00\x00\x00\x00\x00\x00\x00\x00\x00\x00\x00\x00\x00\x00\x00\x00\x00\x00\
+    \x00\x00\x00\x00\x00\x00\x00\x00\x00\x00\x00\x00\x00\x00\x00\x00\x00\x00\x00\x00\
+    \x00\x00\x00\x00\x00\x00\x00\x00\x00\x00\x00\x00\x00\x00\x00\x00\x00\x00\x00\x00\
+    \x20\x20\x20\x20\x20\x20\x20\x20\x20\x20\x20\x20\x20\x20\x20\x20\x20\x20\x20\x20\
+    \x20\x20\x20\x20\x20\x20\x20\x20\x20\x20\x20\x20\x20\x20\x20\x20\x20\x20\x20\x20\
+    \x20\x20\x20\x20\x20\x20\x20\x20\x20\x20\x20\x20\x20\x20\x20\x20\x20\x20\x20\x20\
+    \x20\x20\x20\x20\x20\x20\x20\x20\x20\x20\x20\x20\x20\x20\x20\x20\x20\x20\x20\x20";
 
-// What stands in a column: the line's byte, or a blank from the line's end on.
-fn column_of(b: u8, column: u8, end: u8) -> u8
-    ensures { λ r. ⌜ r ≡ columnOf b column end ⌝ }
+fn larger_of(a: u8, b: u8) -> u8
+    ensures { λ r. ⌜ r ≡ larger a b ⌝ }
 {
-    if column < end { b } else { 32 }
+    if a <= b { b } else { a }
+}
+
+// What stands in a column: the line's byte where it is kept, else a blank. It is told by no branch.
+fn column_of(b: u8, kept: u8, blank: u8) -> u8
+    ensures { λ r. ⌜ r ≡ columnOf b kept blank ⌝ }
+{
+    larger_of(lesser_of(b, kept), blank)
 }
 
 // The first n bytes in 80 columns, and an LF.
-fn lay_columns(part: &[u8], n: u8, columns: &[u8; 80], out: &mut [u8])
-    requires { ⌜ (n ≤ length (now part)) × (n ≤ 80) × (now columns ≡ counted) × (length (now out) ≡ 81) ⌝ }
+fn lay_columns(part: &[u8], n: usize, masks: &[u8], out: &mut [u8])
+    requires { ⌜ (n ≤ length (now part)) × (n ≤ 80) × (now masks ≡ maskBytes) × (length (now out) ≡ 81) ⌝ }
     ensures { λ _. ⌜ now (out .exit) ≡ paddedLine (take n (now (part .entry))) ⌝ }
 {
-    let end = 32 + n;
+    let from = 80 - n;
+    let own = &masks[from..from + 160];
     let mut i: usize = 0;
     while i < 80 {
-        out[i] = column_of(byte_at(part, i), columns[i], end);
-        i += 1;
-    }
-    out[80] = 10;
-}
-
-// A full line has nothing to be filled.
-fn lay_full(part: &[u8], out: &mut [u8])
-    requires { ⌜ (length (now part) ≡ 80) × (length (now out) ≡ 81) ⌝ }
-    ensures { λ _. ⌜ now (out .exit) ≡ paddedLine (take 80 (now (part .entry))) ⌝ }
-{
-    let mut i: usize = 0;
-    while i < 80 {
-        out[i] = part[i];
+        out[i] = column_of(byte_at(part, i), own[i], own[80 + i]);
         i += 1;
     }
     out[80] = 10;
 }
 
 // Where 80 bytes are there to be looked at, the compiler lays many columns at once.
-pub(crate) fn lay_line(part: &[u8], n: usize, columns: &[u8; 80], out: &mut [u8])
-    requires { ⌜ (n ≤ length (now part)) × (n ≤ 80) × (now columns ≡ counted) × (length (now out) ≡ 81) ⌝ }
+pub(crate) fn lay_line(part: &[u8], n: usize, masks: &[u8], out: &mut [u8])
+    requires { ⌜ (n ≤ length (now part)) × (n ≤ 80) × (now masks ≡ maskBytes) × (length (now out) ≡ 81) ⌝ }
     ensures { λ _. ⌜ now (out .exit) ≡ paddedLine (take n (now (part .entry))) ⌝ }
 {
     if part.len() < 80 {
-        lay_columns(part, n as u8, columns, out);
+        lay_columns(part, n, masks, out);
         return;
     }
-    if n == 80 {
-        lay_full(&part[0..80], out);
-        return;
-    }
-    lay_columns(&part[0..80], n as u8, columns, out);
+    lay_columns(&part[0..80], n, masks, out);
 }

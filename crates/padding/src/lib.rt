@@ -2,22 +2,21 @@
 mod counting;
 mod laying;
 mod lines;
+mod stretches;
 
-use crate::counting::count_lines;
-use crate::laying::COLUMNS;
-use crate::laying::lay_line;
+use crate::counting::count_halves;
+use crate::laying::MASKS;
 use crate::lines::feed_at;
 use crate::lines::text_length;
+use crate::stretches::lay_lines;
 use columns::parts::middle;
 use kinds::Fault;
 ghost use mathlib.Core.Path.{_≡_};
-ghost use mathlib.Core.List.{_++_};
-ghost use Prim.Native.Nat.{_*_, _≤_};
-ghost use lib.ListN.{length, drop};
+ghost use lib.ListN.{length};
 ghost use Rattle.rules.specs.Files.{accept, refuse};
-ghost use Rattle.rules.specs.Padding.{texts, padded, judgeTexts, padAnswerBy};
-ghost use Rattle.padding.specs.Lines.{counted};
+ghost use Rattle.rules.specs.Padding.{texts, judgeTexts, padAnswerBy};
 ghost use Rattle.padding.specs.Promise.{paddedOf, Promised};
+ghost use Rattle.padding.specs.Walks.{Told};
 
 // The number of lines, or a fault and 0 lines.
 pub struct Padded {
@@ -73,45 +72,36 @@ fn judge_lines(input: &[u8]) -> Padded
     good(lines)
 }
 
-fn judge(input: &[u8]) -> Padded
+// What is told of all lines at once is not judged line by line.
+fn judge(input: &[u8], told: u32) -> Padded
+    requires { ⌜ Told (now input) told ⌝ }
     ensures { λ v. ⌜ v ≡ paddedOf (padAnswerBy (judgeTexts 1 (texts (now (input .entry)))) (length (texts (now (input .entry))))) ⌝ }
 {
-    let lines = count_lines(input);
-    if lines != 0 {
-        return good(lines);
+    if told != 0 {
+        return good(told);
     }
     judge_lines(input)
-}
-
-fn lay_lines(input: &[u8], columns: &[u8; 80], out: &mut [u8])
-    requires { ⌜ (now columns ≡ counted) × (judgeTexts 1 (texts (now input)) ≡ accept) × (81 * length (texts (now input)) ≤ length (now out)) ⌝ }
-    ensures { λ _. ⌜ now (out .exit) ≡ padded (now (input .entry)) ++ drop (81 * length (texts (now (input .entry)))) (now (out .entry)) ⌝ }
-{
-    let size = input.len();
-    let mut at: usize = 0;
-    let mut a: usize = 0;
-    while at < size {
-        let part = middle(input, at, 82);
-        let n = feed_at(part);
-        let k = text_length(part, n);
-        let e = a + 81;
-        lay_line(part, k, columns, &mut out[a..e]);
-        a = e;
-        at += n + 1;
-    }
 }
 
 // The padded lines from the output's first byte on; its rest stays, and all of it after a refusal.
 pub fn pad(input: &[u8], out: &mut [u8]) -> Padded
     ensures { λ v. ⌜ Promised (now (input .entry)) (now (out .entry)) v (now (out .exit)) ⌝ }
 {
-    let v = judge(input);
+    let halves = count_halves(input);
+    let v = judge(input, halves.lines);
     if v.fault.number != 0 {
         return v;
     }
     if out.len() / 81 < v.lines as usize {
         return refused(1, 0, 0);
     }
-    lay_lines(input, &COLUMNS, out);
+    lay_lines(
+        input,
+        halves.start,
+        halves.near as usize,
+        v.lines as usize,
+        &MASKS,
+        out,
+    );
     v
 }

@@ -35,7 +35,7 @@ fn has_no_feed(part: &[u8]) -> bool
     free
 }
 
-fn lesser_of(a: u8, b: u8) -> u8
+pub(crate) fn lesser_of(a: u8, b: u8) -> u8
     ensures { λ r. ⌜ r ≡ lesser a b ⌝ }
 {
     if a <= b { a } else { b }

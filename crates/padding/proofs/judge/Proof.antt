@@ -7,5 +7,4 @@ returns : tie.Need-returns
 returns c = search (told-good, needs)
 
 pub judge-spec : {M : Type 1} → statement M
-judge-spec =
-    tie.close (tie.spec (λ c κs. search needs) (λ c κs. search needs) returns (λ c κs. search needs) (λ c. search needs))
+judge-spec = tie.close (tie.spec (λ c κs. search needs) returns (λ c κs. search needs) (λ c. search needs))

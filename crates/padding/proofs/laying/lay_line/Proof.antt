@@ -1,19 +1,15 @@
 use borrow.Author.Needs.{needs}
-use Rattle.padding.proofs.LineLaws.{laid-full, laid-80}
+use Rattle.padding.proofs.LineLaws.{laid-80}
 use Rattle.padding.proofs.laying.lay_line.Statement.{statement}
 use Rattle.padding.proofs.laying.lay_line.Tie as tie
 
 returns-2 : tie.Need-returns-2
-returns-2 c = search (laid-full, needs)
-
-returns-3 : tie.Need-returns-3
-returns-3 c = search (laid-80, needs)
+returns-2 c = search (laid-80, needs)
 
 pub lay-line-spec : {M : Type 1} → statement M
 lay-line-spec =
     tie.close
     (tie.spec
-    (λ c. search needs)
     (λ c κs. search needs)
     (λ c. search needs)
     (λ c. search needs)
@@ -22,11 +18,4 @@ lay-line-spec =
     (λ c. search needs)
     (λ c κs. search needs)
     (λ c. search needs)
-    returns-2
-    (λ c. search needs)
-    (λ c. search needs)
-    (λ c. search needs)
-    (λ c. search needs)
-    (λ c κs. search needs)
-    (λ c. search needs)
-    returns-3)
+    returns-2)
