@@ -2,7 +2,7 @@
 use mathlib.Core.Path.{_≡_, refl, sym, _∙_, ap}
 use mathlib.Core.Logic.{_⊎_, inl, inr}
 use mathlib.Core.Bool.{true, false, not, false≢true, true≢false}
-use mathlib.Core.List.{List, [], _∷_, _++_}
+use mathlib.Core.List.{List, [], _∷_, _++_, append-nil}
 use Prim.Native.Nat.{ℕ, zero, suc, _+_, _-_, _%_, _≤_, _<_}
 use native.Mathlib.Nat.{le-trans}
 use native.Mathlib.Numerals.{add-one}
@@ -55,9 +55,8 @@ fed-stop [] ys h = absurd (true≢false h)
 fed-stop (x ∷ xs) ys h = cases (x =? 10) (λ e. rw e) (λ e. rw (e, fed-stop xs ys (unfold _&_ in (rw e at h))))
 
 free-long : (xs : List ℕ) → isFree xs ≡ true → feedAt xs ≡ length xs
-unfolding isFree all feedAt
-free-long [] h = refl
-free-long (x ∷ xs) h = cases (x =? 10) (λ e. absurd (false≢true (sym (ap not e) ∙ both h .0))) (λ e. rw (e, free-long xs (both h .1)))
+unfolding feedAt
+free-long xs h = ap feedAt (sym (append-nil xs)) ∙ free-skip xs [] h ∙ omega arith
 
 fed-short : (xs : List ℕ) → isFree xs ≡ false → feedAt xs < length xs
 unfolding isFree all feedAt

@@ -45,7 +45,7 @@ module _ (f : List ℕ) (room : ℕ) where
       by accept k = (refl, roomy k)
       by (refuse n r c) k = absurd (false≢true (ap isAccept k))
 
-  parts-good : judgeTexts 1 (texts f) ≡ accept → 81 * length (texts f) ≤ room → padVerdict f room ≡ accept
+  pub parts-good : judgeTexts 1 (texts f) ≡ accept → 81 * length (texts f) ≤ room → padVerdict f room ≡ accept
   unfolding padVerdict andThen
   parts-good e k = rw (e, of≤ {m = 81 * length (texts f)} {n = room} k)
 

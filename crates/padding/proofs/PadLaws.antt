@@ -6,10 +6,10 @@ use native.Mathlib.Omega.{arith}
 use lib.ListN.{length, drop}
 use Rattle.rules.specs.Files.{Result, accept, refuse, isAccept, andThen}
 use Rattle.rules.specs.Padding.{texts, padded, judgeTexts, padVerdict, PadFirst, padAnswerBy, padAnswer, padOutput}
-use Rattle.rules.proofs.Truth.{of≤, of>}
+use Rattle.rules.proofs.Truth.{of>}
 use Rattle.padding.specs.declared.Padded.{Padded}
 use Rattle.padding.specs.Promise.{paddedOf, Promised}
-use Rattle.padding.proofs.PadDemands.{above-zero, refused-first}
+use Rattle.padding.proofs.PadDemands.{parts-good, above-zero, refused-first}
 
 module _ (f o : List ℕ) where
   verdict-refused : (n r c : ℕ) → judgeTexts 1 (texts f) ≡ refuse n r c → padVerdict f (length o) ≡ refuse n r c
@@ -19,10 +19,6 @@ module _ (f o : List ℕ) where
   verdict-narrow : judgeTexts 1 (texts f) ≡ accept → length o < 81 * length (texts f) → padVerdict f (length o) ≡ refuse 1 0 0
   unfolding padVerdict andThen
   verdict-narrow e h = rw (e, of> h)
-
-  verdict-good : judgeTexts 1 (texts f) ≡ accept → 81 * length (texts f) ≤ length o → padVerdict f (length o) ≡ accept
-  unfolding padVerdict andThen
-  verdict-good e h = rw (e, of≤ h)
 
   refused : (v : Padded) (n r c m : ℕ) → v ≡ paddedOf (padAnswerBy (refuse n r c) m) → padVerdict f (length o) ≡ refuse n r c → Promised f o v o
   unfolding padAnswer padOutput isAccept padAnswerBy
@@ -69,4 +65,4 @@ module _ (f o : List ℕ) where
       before near h = omega (arith, count)
 
       pub laid : v .lines ≤ length o / 81 → (p : List ℕ) → p ≡ padded f ++ drop (81 * v .lines) o → Promised f o v p
-      laid h p e = taken v p (judged-as accept good-lines) (e ∙ ap (λ n. padded f ++ drop (81 * n) o) count) (verdict-good good-lines (omega (arith, count)))
+      laid h p e = taken v p (judged-as accept good-lines) (e ∙ ap (λ n. padded f ++ drop (81 * n) o) count) (parts-good f (length o) good-lines (omega (arith, count)))
