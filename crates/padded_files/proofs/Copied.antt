@@ -6,35 +6,28 @@ use Prim.Native.Nat.{ℕ, _+_, _-_, _≤_, _<_}
 use native.Mathlib.Omega.{arith}
 use lib.ListN.{length, replicate, getD, take}
 use lib.Seq.{take-append-add}
-use Rattle.rules.specs.Tests.{all, _≤?_}
+use Rattle.rules.specs.Tests.{all}
 use Rattle.rules.specs.Members.{_∈_}
 use Rattle.rules.specs.Characters.{isPrintable}
 use Rattle.rules.specs.Files.{accept, lineAt, begun}
 use Rattle.rules.specs.Conforms.{Conforms}
 use Rattle.rules.specs.Padding.{texts, padded, judgeTexts}
-use Rattle.rules.proofs.Truth.{to≤, to-within, all-at, all-parts, all-members}
+use Rattle.rules.proofs.Truth.{all-parts, all-members}
 use Rattle.rules.proofs.SetLaws.{printed-of}
-use Rattle.rules.proofs.PaddingLaws.{short-texts, padded-long, padded-line}
+use Rattle.rules.proofs.PaddingLaws.{padded-long, padded-line, not-printed, short-at}
 use Rattle.kinds.specs.declared.Checked.{Checked}
 use Rattle.walk.specs.Promise as check
 use Rattle.padding.proofs.PadDemands.{passed}
 use Rattle.padded_files.specs.AfterPad.{Padding, padded-part}
 use Rattle.padded_files.proofs.OverPadded.{checks}
 
-no-cr : isPrintable 13 ≡ true → ⊥
-unfolding isPrintable
-no-cr h = omega (arith, to-within h .0)
-
 -- a line of the padded file begins with its source line
 module _ (f : List ℕ) (good : judgeTexts 1 (texts f) ≡ accept) (i : ℕ) (h : i < length (texts f)) where
-  fits : length (getD (texts f) i []) ≤ 80
-  fits = to≤ (all-at (λ t. length t ≤? 80) (texts f) [] i (short-texts f good .0) h)
-
   columns : (rest : List ℕ) × (take 80 (lineAt (padded f) i) ≡ getD (texts f) i [] ++ rest)
   columns =
       let t = getD (texts f) i [] in
       let behind : List ℕ = replicate (80 - length t) 32 ++ (10 ∷ []) in
-      let width : 80 ≡ length t + (80 - length t) = omega (arith, fits) in
+      let width : 80 ≡ length t + (80 - length t) = omega (arith, short-at f good i h) in
       (take (80 - length t) behind, ap (take 80) (padded-line f good i h) ∙ ap (λ n. take n (t ++ behind)) width ∙ take-append-add t behind (80 - length t))
 
   its-record : i < begun (padded f)
@@ -51,4 +44,4 @@ pub copied-refused : {f : List ℕ} (x : Padding f) (i : ℕ) → i < length (te
     → (t : List ℕ) → 12_000 ≤ length t → (v : Checked) (u : List ℕ) → check.Promised (padded-part x) t v u → v .fault .number ≡ 0 → ⊥
 copied-refused {f} x i h cr t big v u p zero =
     let good = passed f (x .output) (x .answer) (x .output-left) (x .promised) (x .good) in
-    no-cr (all-members isPrintable (getD (texts f) i []) (conforming-printed f good i h (checks x t v u p .judging .conforming big .0 zero)) 13 cr)
+    not-printed 13 (all-members isPrintable (getD (texts f) i []) (conforming-printed f good i h (checks x t v u p .judging .conforming big .0 zero)) 13 cr) (omega arith)

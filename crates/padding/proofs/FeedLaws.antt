@@ -1,15 +1,15 @@
 -- Where the first LF stands: byte by byte, and five bytes at a time.
 use mathlib.Core.Path.{_≡_, refl, sym, _∙_, ap}
 use mathlib.Core.Logic.{_⊎_, inl, inr}
-use mathlib.Core.Bool.{true, false, not, false≢true, true≢false}
-use mathlib.Core.List.{List, [], _∷_, _++_, append-nil}
+use mathlib.Core.Bool.{true, false, cond, not, false≢true}
+use mathlib.Core.List.{List, [], _∷_}
 use Prim.Native.Nat.{ℕ, zero, suc, _+_, _-_, _%_, _≤_, _<_}
 use native.Mathlib.Nat.{le-trans}
 use native.Mathlib.Numerals.{add-one}
 use native.Mathlib.Omega.{arith}
-use lib.ListN.{length, length-drop, getD, take, drop, drop-of-length-le, take-append-drop}
+use lib.ListN.{length, length-drop, getD, take, drop, drop-of-length-le}
 use lib.Seq.{drop-cons, length-take-le, take-all}
-use Rattle.rules.specs.Tests.{all, _&_, _≤?_, _=?_}
+use Rattle.rules.specs.Tests.{all, _≤?_, _=?_}
 use Rattle.rules.proofs.Truth.{both, to≤, to≡, of≡, of≢, no≤, no≡, cases, either}
 use Rattle.padding.specs.Lines.{feedAt, isFree, lesser, nearerOf, nearest}
 
@@ -43,53 +43,58 @@ module _ (f : List ℕ) (i : ℕ) (s : i + feedAt (drop i f) ≡ feedAt f) where
   pub find-none : length f ≤ i → i ≤ length f → length f ≡ feedAt f
   find-none h k = omega (arith, s, feed-none f i h)
 
--- ---- a part without an LF, and one with
-pub free-skip : (xs ys : List ℕ) → isFree xs ≡ true → feedAt (xs ++ ys) ≡ length xs + feedAt ys
-unfolding isFree all feedAt
-free-skip [] ys h = omega arith
-free-skip (x ∷ xs) ys h = cases (x =? 10) (λ e. absurd (false≢true (sym (ap not e) ∙ both h .0))) (λ e. rw (e, free-skip xs ys (both h .1)) (omega arith))
+-- ---- in the first m bytes
+pub feed-near : (m : ℕ) (f : List ℕ) → feedAt f < m → feedAt (take m f) ≡ feedAt f
+unfolding feedAt
+feed-near zero f h = absurd (omega arith)
+feed-near (suc m) [] h = refl
+feed-near (suc m) (b ∷ f) h = cases (b =? 10) (λ e. rw e) (λ e. rw e (ap suc (feed-near m f (near e h))))
+  where
+    near : b =? 10 ≡ false → cond (b =? 10) 0 (suc (feedAt f)) < suc m → feedAt f < m
+    near e k = let j : suc (feedAt f) < suc m = rw e at k in omega arith
 
-pub fed-stop : (xs ys : List ℕ) → isFree xs ≡ false → feedAt (xs ++ ys) ≡ feedAt xs
-unfolding isFree all feedAt
-fed-stop [] ys h = absurd (true≢false h)
-fed-stop (x ∷ xs) ys h = cases (x =? 10) (λ e. rw e) (λ e. rw (e, fed-stop xs ys (unfold _&_ in (rw e at h))))
+-- none stands there: it is looked for behind them
+pub feed-far : (m : ℕ) (f : List ℕ) → m ≤ feedAt f → (feedAt (take m f) ≡ m) × (feedAt f ≡ m + feedAt (drop m f))
+unfolding feedAt
+feed-far zero f h = (refl, omega arith)
+feed-far (suc m) [] h = absurd (omega arith)
+feed-far (suc m) (b ∷ f) h =
+    cases (b =? 10)
+    (λ e. absurd (none e h))
+    (λ e. let rest = feed-far m f (far e h) in rw e (ap suc (rest .0), omega (arith, rest .1)))
+  where
+    none : b =? 10 ≡ true → suc m ≤ cond (b =? 10) 0 (suc (feedAt f)) → ⊥
+    none e k = let j : suc m ≤ 0 = rw e at k in omega arith
+
+    far : b =? 10 ≡ false → suc m ≤ cond (b =? 10) 0 (suc (feedAt f)) → m ≤ feedAt f
+    far e k = let j : suc m ≤ suc (feedAt f) = rw e at k in omega arith
 
 free-long : (xs : List ℕ) → isFree xs ≡ true → feedAt xs ≡ length xs
-unfolding feedAt
-free-long xs h = ap feedAt (sym (append-nil xs)) ∙ free-skip xs [] h ∙ omega arith
-
-fed-short : (xs : List ℕ) → isFree xs ≡ false → feedAt xs < length xs
 unfolding isFree all feedAt
-fed-short [] h = absurd (true≢false h)
-fed-short (x ∷ xs) h = cases (x =? 10) (λ e. rw e (omega arith)) (λ e. rw e (omega (arith, fed-short xs (unfold _&_ in (rw e at h)))))
+free-long [] h = refl
+free-long (x ∷ xs) h = cases (x =? 10) (λ e. absurd (false≢true (sym (ap not e) ∙ both h .0))) (λ e. rw e (ap suc (free-long xs (both h .1))))
+
+-- a part that is lent from a place on to the end
+pub lent-rest : (f : List ℕ) (at : ℕ) → take (length f - at) (drop at f) ≡ drop at f
+lent-rest f at = take-all (length f - at) (drop at f) (omega (arith, length-drop at f))
 
 -- 80 columns and what stands behind them
 module _ (f : List ℕ) (h : 80 < length f) where
-  columns : length (take 80 f) ≡ 80
-  columns = length-take-le 80 f (omega arith)
-
-  skipped : isFree (take 80 f) ≡ true → feedAt f ≡ 80 + feedAt (drop 80 f)
-  skipped e = ap feedAt (sym (take-append-drop 80 f)) ∙ free-skip (take 80 f) (drop 80 f) e ∙ ap (λ n. n + feedAt (drop 80 f)) columns
-
-  pub full-feed : isFree (take 80 f) ≡ true → getD f 80 0 ≡ 10 → 80 ≡ feedAt f
-  full-feed e t = sym (skipped e ∙ ap (80 +_) (feed-here f 80 h t))
-
   module _ (n : ℕ) (en : n ≡ feedAt (take 80 f)) where
     pub near-feed : n < 80 → n ≡ feedAt f
-    near-feed l =
-        cases (isFree (take 80 f)) (λ e. absurd (omega (arith, en, free-long (take 80 f) e, columns)))
-        (λ e. en ∙ sym (fed-stop (take 80 f) (drop 80 f) e) ∙ ap feedAt (take-append-drop 80 f))
+    near-feed l = cases (80 ≤? feedAt f) (λ e. absurd (omega (arith, en, feed-far 80 f (to≤ e) .0))) (λ e. en ∙ feed-near 80 f (no≤ e))
 
-    rest : take (length f - 80) (drop 80 f) ≡ drop 80 f
-    rest = take-all (length f - 80) (drop 80 f) (omega (arith, length-drop 80 f))
+    beyond : 80 ≤ n → feedAt f ≡ 80 + feedAt (drop 80 f)
+    beyond l = cases (80 ≤? feedAt f) (λ e. feed-far 80 f (to≤ e) .1) (λ e. absurd (omega (arith, en, no≤ e, feed-near 80 f (no≤ e))))
 
     pub far-most : (r : ℕ) → r ≡ feedAt (take (length f - 80) (drop 80 f)) → 80 + r ≤ length f
-    far-most r e = omega (arith, e ∙ ap feedAt rest, feed-most (drop 80 f), length-drop 80 f)
+    far-most r e = omega (arith, e ∙ ap feedAt (lent-rest f 80), feed-most (drop 80 f), length-drop 80 f)
 
     pub far-feed : 80 ≤ n → (r : ℕ) → r ≡ feedAt (take (length f - 80) (drop 80 f)) → 80 + r ≡ feedAt f
-    far-feed l r er =
-        cases (isFree (take 80 f)) (λ e. rw (er, rest) (sym (skipped e)))
-        (λ e. absurd (omega (arith, en, fed-short (take 80 f) e, columns)))
+    far-feed l r e = ap (80 +_) (e ∙ ap feedAt (lent-rest f 80)) ∙ sym (beyond l)
+
+  pub full-feed : isFree (take 80 f) ≡ true → getD f 80 0 ≡ 10 → 80 ≡ feedAt f
+  full-feed e t = sym (beyond _ refl (omega (arith, free-long (take 80 f) e, length-take-le 80 f (omega arith))) ∙ ap (80 +_) (feed-here f 80 h t))
 
 -- ---- five bytes at a time
 -- r is the first LF among the places of P, all of them below 80; 80 where there is none

@@ -37,6 +37,9 @@ no-texts f at h = ap texts (drop-of-length-le f h) ∙ (unfold texts linesOf in 
 pub window : (f : List ℕ) (at : ℕ) → take (at + 82 - at) (drop at f) ≡ take 82 (drop at f)
 window f at = let width : at + 82 - at ≡ 82 = omega arith in ap (λ m. take m (drop at f)) width
 
+pub start-within : (f : List ℕ) (at : ℕ) → at ≤ length f → (w : List ℕ) → w ≡ take 82 (drop at f) → (n : ℕ) → n ≡ feedAt w → at + n ≤ length f
+start-within f at h w ew n en = omega (arith, en, feed-most w, ap length ew, length-take 82 (drop at f), length-drop at f)
+
 module _ (f : List ℕ) (at : ℕ) (h : at < length f) where
   some : 0 < length (drop at f)
   some = omega (arith, length-drop at f)
@@ -46,7 +49,7 @@ module _ (f : List ℕ) (at : ℕ) (h : at < length f) where
     feed-there = rw en (feed-most w)
 
     pub next-within : at + (n + 1) ≤ length f + 1
-    next-within = omega (arith, feed-there, ap length ew, length-take 82 (drop at f), length-drop at f)
+    next-within = omega (arith, start-within f at (omega arith) w ew n en)
 
     module _ (k : ℕ) (ek : k ≡ textLength w n) where
       pub text-there : k ≤ length w
@@ -69,7 +72,7 @@ pub judge-from : (f : List ℕ) → Judging f 0 0
 judge-from f = record { few = omega arith; within = omega arith; verdict = refl; count = omega arith }
 
 -- what a verdict gives is the answer
-answer-is : (f : List ℕ) (v : Padded) (x : Result) (n : ℕ) → v ≡ paddedOf (padAnswerBy x n) → x ≡ judgeTexts 1 (texts f) → n ≡ length (texts f)
+pub answer-is : (f : List ℕ) (v : Padded) (x : Result) (n : ℕ) → v ≡ paddedOf (padAnswerBy x n) → x ≡ judgeTexts 1 (texts f) → n ≡ length (texts f)
     → v ≡ paddedOf (padAnswerBy (judgeTexts 1 (texts f)) (length (texts f)))
 answer-is f v x n e p q = e ∙ ap₂ (λ y m. paddedOf (padAnswerBy y m)) p q
 

@@ -1,26 +1,22 @@
 -- Lines laid into an output: a line at a time, and two stretches in turn, of which either may go first.
 use mathlib.Core.Path.{_≡_, refl, sym, _∙_, ap, ap₂}
 use mathlib.Core.Logic.{inl, inr}
-use mathlib.Core.Bool.{true}
 use mathlib.Core.List.{List, [], _∷_, _++_, append-assoc, map}
 use Prim.Native.Nat.{ℕ, suc, _+_, _-_, _*_, _≤_, _<_}
 use native.Mathlib.Omega.{arith}
-use lib.ListN.{length, length-append, length-drop, set, take, drop, take-append-drop}
+use lib.ListN.{length, length-drop, set, take, drop, take-append-drop}
 use lib.Seq.{length-take-le, take-all, drop-drop, set-comm, sets, length-sets, sets-eq}
 use Rattle.rules.specs.Tests.{all, _≤?_}
 use Rattle.rules.specs.Files.{accept, join}
 use Rattle.rules.specs.Padding.{texts, paddedLine, padded, judgeTexts}
 use Rattle.rules.proofs.Truth.{both, to≤, no≤, cases, all-parts}
 use Rattle.rules.proofs.FileLaws.{laid-take, laid-drop, laid-size}
-use Rattle.rules.proofs.PaddingLaws.{line-81, short-texts}
+use Rattle.rules.proofs.PaddingLaws.{AllShort, line-81, lines-long, short-texts}
 use Rattle.padding.specs.declared.stretches.Stretch.{Stretch}
 use Rattle.padding.specs.Lines.{feedAt, textLength}
 use Rattle.padding.specs.Walks.{laidAt, laid, Ready, Apart, Turned}
 use Rattle.padding.proofs.TextLaws.{long-text}
 use Rattle.padding.proofs.PassLaws.{next-text, text-size, no-texts}
-
-abbrev Short : List (List ℕ) → Type 0
-Short ts = all (λ t. length t ≤? 80) ts ≡ true
 
 -- an output after 81 bytes of it were lent and came back as p
 abbrev pub put : List ℕ → ℕ → List ℕ → List ℕ
@@ -30,11 +26,11 @@ put o to p = take to o ++ (p ++ drop (to + 81 - to) (drop to o))
 abbrev pub restOf : Stretch → ℕ → Stretch
 restOf s n = record { from = s .from + (n + 1); to = s .to + 81; lines = s .lines - 1 }
 
-short-first : (t : List ℕ) (ts us : List (List ℕ)) → us ≡ t ∷ ts → Short us → (length t ≤ 80) × Short ts
+short-first : (t : List ℕ) (ts us : List (List ℕ)) → us ≡ t ∷ ts → AllShort us → (length t ≤ 80) × AllShort ts
 unfolding all
 short-first t ts us e h = let x = both (rw e at h) in (to≤ (x .0), x .1)
 
-short-take : (n : ℕ) (ts : List (List ℕ)) → Short ts → Short (take n ts)
+short-take : (n : ℕ) (ts : List (List ℕ)) → AllShort ts → AllShort (take n ts)
 short-take n ts h = all-parts (λ t. length t ≤? 80) (take n ts) (drop n ts) (rw take-append-drop h) .0
 
 -- ---- stores at different places can be made in any order
@@ -47,13 +43,7 @@ sets-comm l i [] j ws h = refl
 sets-comm l i (v ∷ vs) j ws h = sets-comm (set l i v) (suc i) vs j ws (omega arith) ∙ ap (λ m. sets m (suc i) vs) (set-sets l i v j ws (omega arith))
 
 -- ---- lines laid
-lines-long : (ts : List (List ℕ)) → Short ts → length (join (map paddedLine ts)) ≡ 81 * length ts
-unfolding all join
-lines-long [] h = refl
-lines-long (t ∷ ts) h =
-    length-append (paddedLine t) (join (map paddedLine ts)) ∙ omega (arith, line-81 t (to≤ (both h .0)), lines-long ts (both h .1))
-
-module _ (o : List ℕ) (to : ℕ) (ts : List (List ℕ)) (h : Short ts) (room : to + 81 * length ts ≤ length o) where
+module _ (o : List ℕ) (to : ℕ) (ts : List (List ℕ)) (h : AllShort ts) (room : to + 81 * length ts ≤ length o) where
   laid-sets : laidAt o to ts ≡ sets o to (join (map paddedLine ts))
   unfolding laidAt
   laid-sets =
@@ -93,7 +83,7 @@ unfolding laidAt
 laid-whole o ts n e = let all-lines : 0 + 81 * length ts ≡ 81 * n = omega arith in ap (λ j. join (map paddedLine ts) ++ drop j o) all-lines
 
 -- lines behind lines
-laid-append : (o : List ℕ) (to : ℕ) (ts us : List (List ℕ)) → Short ts → to + 81 * length ts ≤ length o → laidAt o to (ts ++ us) ≡ laidAt (laidAt o to ts) (to + 81 * length ts) us
+laid-append : (o : List ℕ) (to : ℕ) (ts us : List (List ℕ)) → AllShort ts → to + 81 * length ts ≤ length o → laidAt o to (ts ++ us) ≡ laidAt (laidAt o to ts) (to + 81 * length ts) us
 unfolding all
 laid-append o to [] us h room = let same : to + 0 ≡ to = omega arith in ap₂ (λ p n. laidAt p n us) (sym (laid-none o to)) (sym same)
 laid-append o to (t ∷ ts) us h room =
@@ -105,14 +95,14 @@ laid-append o to (t ∷ ts) us h room =
     ∙ ap₂ (λ p n. laidAt p n us) (sym (laid-more o to t fits here ts)) count
 
 -- lines at different places
-module _ (o : List ℕ) (a : ℕ) (ts : List (List ℕ)) (ht : Short ts) (ra : a + 81 * length ts ≤ length o)
-    (b : ℕ) (us : List (List ℕ)) (hu : Short us) (rb : b + 81 * length us ≤ length o) where
+module _ (o : List ℕ) (a : ℕ) (ts : List (List ℕ)) (ht : AllShort ts) (ra : a + 81 * length ts ≤ length o)
+    (b : ℕ) (us : List (List ℕ)) (hu : AllShort us) (rb : b + 81 * length us ≤ length o) where
   as-sets : laidAt (laidAt o a ts) b us ≡ sets (sets o a (join (map paddedLine ts))) b (join (map paddedLine us))
   as-sets =
       laid-sets (laidAt o a ts) b us hu (omega (arith, laid-long o a ts ht ra))
       ∙ ap (λ p. sets p b (join (map paddedLine us))) (laid-sets o a ts ht ra)
 
-laid-before : (o : List ℕ) (a : ℕ) (ts : List (List ℕ)) → Short ts → a + 81 * length ts ≤ length o → (b : ℕ) (us : List (List ℕ)) → Short us → b + 81 * length us ≤ length o
+laid-before : (o : List ℕ) (a : ℕ) (ts : List (List ℕ)) → AllShort ts → a + 81 * length ts ≤ length o → (b : ℕ) (us : List (List ℕ)) → AllShort us → b + 81 * length us ≤ length o
     → a + 81 * length ts ≤ b → laidAt (laidAt o a ts) b us ≡ laidAt (laidAt o b us) a ts
 laid-before o a ts ht ra b us hu rb h =
     as-sets o a ts ht ra b us hu rb
@@ -124,7 +114,7 @@ module _ (f o : List ℕ) (s : Stretch) (g : Ready f o s) where
   its-lines : length (take (s .lines) (texts (drop (s .from) f))) ≡ s .lines
   its-lines = length-take-le (s .lines) (texts (drop (s .from) f)) (g .there)
 
-  its-short : Short (take (s .lines) (texts (drop (s .from) f)))
+  its-short : AllShort (take (s .lines) (texts (drop (s .from) f)))
   its-short = short-take (s .lines) (texts (drop (s .from) f)) (g .short)
 
   its-room : s .to + 81 * length (take (s .lines) (texts (drop (s .from) f))) ≤ length o

@@ -1,6 +1,6 @@
 -- The first line of an input, and the same in 82 bytes of it: in these a line of at most 80 bytes stands with its end, and a longer one is told.
 use mathlib.Core.Path.{_≡_, refl, sym, _∙_, ap, ap₂}
-use mathlib.Core.Bool.{true, false, cond}
+use mathlib.Core.Bool.{cond}
 use mathlib.Core.List.{List, [], _∷_, _++_, map, map-append}
 use Prim.Native.Nat.{ℕ, zero, suc, _+_, _-_, _≤_, _<_}
 use native.Mathlib.Nat.{le-trans}
@@ -11,7 +11,7 @@ use Rattle.rules.specs.Tests.{_≤?_, _=?_}
 use Rattle.rules.specs.Padding.{End, lf, crlf, closing, Line, line, behind, joined, linesOf, texts}
 use Rattle.rules.proofs.Truth.{of≤, of>, to≤, no≤, of≡, of≢, cases}
 use Rattle.padding.specs.Lines.{feedAt, textLength}
-use Rattle.padding.proofs.FeedLaws.{feed-most}
+use Rattle.padding.proofs.FeedLaws.{feed-most, feed-near, feed-far}
 
 -- ---- how many bytes are the line's
 module _ (f : List ℕ) where
@@ -180,27 +180,6 @@ module _ (f : List ℕ) (start : ℕ) (some : 1 ≤ start) (h : start ≤ length
       ∙ map-append (λ l. l .text) (linesOf (take start f)) (linesOf (drop start f))
 
 -- ---- the same in 82 bytes
-feed-near : (m : ℕ) (f : List ℕ) → feedAt f < m → feedAt (take m f) ≡ feedAt f
-unfolding feedAt
-feed-near zero f h = absurd (omega arith)
-feed-near (suc m) [] h = refl
-feed-near (suc m) (b ∷ f) h = cases (b =? 10) (λ e. rw e) (λ e. rw e (ap suc (feed-near m f (near e h))))
-  where
-    near : b =? 10 ≡ false → cond (b =? 10) 0 (suc (feedAt f)) < suc m → feedAt f < m
-    near e k = let j : suc (feedAt f) < suc m = rw e at k in omega arith
-
-feed-far : (m : ℕ) (f : List ℕ) → m ≤ feedAt f → feedAt (take m f) ≡ m
-unfolding feedAt
-feed-far zero f h = refl
-feed-far (suc m) [] h = absurd (omega arith)
-feed-far (suc m) (b ∷ f) h = cases (b =? 10) (λ e. absurd (none e h)) (λ e. rw e (ap suc (feed-far m f (far e h))))
-  where
-    none : b =? 10 ≡ true → suc m ≤ cond (b =? 10) 0 (suc (feedAt f)) → ⊥
-    none e k = let j : suc m ≤ 0 = rw e at k in omega arith
-
-    far : b =? 10 ≡ false → suc m ≤ cond (b =? 10) 0 (suc (feedAt f)) → m ≤ feedAt f
-    far e k = let j : suc m ≤ suc (feedAt f) = rw e at k in omega arith
-
 -- n bytes before the LF, and the LF, stand in the first m
 text-near : (m n : ℕ) (f : List ℕ) → n < m → textLength (take m f) n ≡ textLength f n
 text-near m n f h = cases (length f ≤? m) (λ e. ap (λ g. textLength g n) (take-all m f (to≤ e))) (λ e. long n h (no≤ e))
@@ -220,7 +199,7 @@ module _ (f : List ℕ) (some : 0 < length f) (w : List ℕ) (ew : w ≡ take 82
 
   far : 82 ≤ feedAt f → (81 ≤ textLength f (feedAt f)) × (k ≡ 82)
   far h =
-      let e : n ≡ 82 = en ∙ ap feedAt ew ∙ feed-far 82 f h in
+      let e : n ≡ 82 = en ∙ ap feedAt ew ∙ feed-far 82 f h .0 in
       let long : length w ≡ 82 = ap length ew ∙ length-take-le 82 f (omega (arith, feed-most f)) in
       (omega (arith, text-least f (feedAt f)), ek ∙ sym (text-all w n (omega arith)) ∙ e)
 

@@ -7,7 +7,7 @@ use Prim.Native.Nat.{ℕ, zero, suc, _+_, _-_, _≤_, _<_}
 use native.Mathlib.Nat.{le-trans}
 use native.Mathlib.Numerals.{add-one}
 use native.Mathlib.Omega.{arith}
-use lib.ListN.{length, length-append, length-take, length-drop, getD, set, take, drop, drop-of-length-le}
+use lib.ListN.{length, length-append, length-take, getD, set, take, drop, drop-of-length-le}
 use lib.Seq.{take-suc, take-all, drop-cons, drop-at}
 use Rattle.rules.specs.Tests.{all, _≤?_}
 use Rattle.rules.specs.Files.{accept}
@@ -19,9 +19,9 @@ use Rattle.padding.specs.declared.Padded.{Padded}
 use Rattle.padding.specs.Lines.{feedAt, textLength}
 use Rattle.padding.specs.Walks.{linesAhead, tooLong, longAhead, sum, Passed, Told, Halved}
 use Rattle.padding.specs.Promise.{paddedOf}
-use Rattle.padding.proofs.FeedLaws.{feed-most}
+use Rattle.padding.proofs.FeedLaws.{feed-most, lent-rest}
 use Rattle.padding.proofs.TextLaws.{texts-split}
-use Rattle.padding.proofs.PassLaws.{no-texts, window, next-text, text-size}
+use Rattle.padding.proofs.PassLaws.{no-texts, window, next-text, text-size, answer-is}
 
 -- ---- numbers added up
 module _ (g : ℕ → ℕ) where
@@ -41,12 +41,8 @@ module _ (g : ℕ → ℕ) where
 pub within-82 : (f : List ℕ) (m : ℕ) → m ≤ 82 → (n : ℕ) → n ≡ feedAt (take m f) → n ≤ 82
 within-82 f m h n e = omega (arith, e, feed-most (take m f), length-take m f)
 
-module _ (f : List ℕ) (at : ℕ) (h : at ≤ length f) (w : List ℕ) (ew : w ≡ take 82 (drop at f)) (n : ℕ) (en : n ≡ feedAt w) where
-  pub start-within : at + n ≤ length f
-  start-within = omega (arith, en, feed-most w, ap length ew, length-take 82 (drop at f), length-drop at f)
-
-  pub start-is : at + n + 1 ≡ at + feedAt (take 82 (drop at f)) + 1
-  start-is = ap (λ m. at + m + 1) (en ∙ ap feedAt ew)
+pub start-is : (f : List ℕ) (at : ℕ) (w : List ℕ) → w ≡ take 82 (drop at f) → (n : ℕ) → n ≡ feedAt w → at + n + 1 ≡ at + feedAt (take 82 (drop at f)) + 1
+start-is f at w ew n en = ap (λ m. at + m + 1) (en ∙ ap feedAt ew)
 
 -- ---- the walks
 pub passed-none : (f ps : List ℕ) (before : ℕ) → before ≤ 99_999 → Passed f ps before ps before
@@ -157,7 +153,7 @@ told-through f a b c e h ps lines p r q = record { passes = λ z. through z .0; 
     through : (r ≡ 0 → ⊥) → (judgeTexts 1 (texts f) ≡ accept) × (r ≡ length (texts f))
     through z = told f a b c e h r (passed-join f _ 0 ps lines p _ r (q z))
 
--- four numbers, none above another
+-- four numbers, none of them above m
 pub four-within : (a b c e m : ℕ) → a ≤ m → b ≤ m → c ≤ m → e ≤ m → (k : ℕ) → k < 4 → getD (a ∷ b ∷ c ∷ e ∷ []) k 0 ≤ m
 four-within a b c e m ha hb hc he zero h = ha
 four-within a b c e m ha hb hc he (suc zero) h = hb
@@ -183,20 +179,17 @@ module _ (f : List ℕ) (start : ℕ) (some : 1 ≤ start) (h : start ≤ length
     tn : Told (take start f) near
     tn = let whole : start - 0 ≡ start = omega arith in rw whole at tn₀
 
-    rest : take (length f - start) (drop start f) ≡ drop start f
-    rest = take-all (length f - start) (drop start f) (omega (arith, length-drop start f))
-
     split : texts f ≡ texts (take start f) ++ texts (drop start f)
     split = texts-split f start some h fed
 
     number : near + far ≡ length (texts f)
-    number = omega (arith, ap length split, length-append (texts (take start f)) (texts (drop start f)), tn .counted zn, tf .counted zf, ap (λ g. length (texts g)) rest)
+    number = omega (arith, ap length split, length-append (texts (take start f)) (texts (drop start f)), tn .counted zn, tf .counted zf, ap (λ g. length (texts g)) (lent-rest f start))
 
     short : all (λ t. length t ≤? 80) (texts f) ≡ true
     short =
         rw split
         (all-append _ (texts (take start f)) (texts (drop start f)) (short-texts (take start f) (tn .passes zn) .0)
-        (rw rest at (short-texts (take (length f - start) (drop start f)) (tf .passes zf) .0)))
+        (rw lent-rest at (short-texts (take (length f - start) (drop start f)) (tf .passes zf) .0)))
 
     pub halved : Halved f start near (near + far)
     halved = record {
@@ -208,4 +201,4 @@ module _ (f : List ℕ) (start : ℕ) (some : 1 ≤ start) (h : start ≤ length
 -- the answer
 pub told-good : (f : List ℕ) (n : ℕ) → Told f n → (n ≡ 0 → ⊥) → (v : Padded) → v ≡ paddedOf (padAnswerBy accept n)
     → v ≡ paddedOf (padAnswerBy (judgeTexts 1 (texts f)) (length (texts f)))
-told-good f n t z v e = e ∙ rw (t .passes z, ← t .counted z)
+told-good f n t z v e = answer-is f v accept n e (sym (t .passes z)) (t .counted z)

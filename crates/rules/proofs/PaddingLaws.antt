@@ -259,7 +259,7 @@ module _ (f : List ℕ) (room : ℕ) where
   pad-none = none-by (padVerdict f room) pad-first
 
 -- ---- inputs whose lines pass
-abbrev AllShort : List (List ℕ) → Type 0
+abbrev pub AllShort : List (List ℕ) → Type 0
 AllShort ts = all (λ t. length t ≤? 80) ts ≡ true
 
 judged-parts : (r : ℕ) (t : List ℕ) (ts : List (List ℕ))
@@ -306,6 +306,10 @@ unfolding all isLine
 all-lines [] h = refl
 all-lines (t ∷ ts) h = and (of≡ (line-81 t (to≤ (both h .0)))) (all-lines ts (both h .1))
 
+-- padded lines put together have 81 bytes each
+pub lines-long : (ts : List (List ℕ)) → AllShort ts → length (join (map paddedLine ts)) ≡ 81 * length ts
+lines-long ts h = length-join (map paddedLine ts) (all-lines ts h) ∙ ap (λ n. 81 * n) (length-map ts paddedLine)
+
 -- look up what was made of a list's members
 at-map : {A B : Type 0} (g : A → B) (xs : List A) (a : A) (b : B) (i : ℕ) → i < length xs → getD (map g xs) i b ≡ g (getD xs i a)
 at-map g [] a b i h = absurd (omega arith)
@@ -326,7 +330,7 @@ module _ (f : List ℕ) (h : judgeTexts 1 (texts f) ≡ accept) where
   -- 81 bytes for every line
   pub padded-long : length (padded f) ≡ 81 * length (texts f)
   unfolding padded
-  padded-long = length-join (map paddedLine (texts f)) (all-lines (texts f) (short-texts .0)) ∙ ap (λ n. 81 * n) (length-map (texts f) paddedLine)
+  padded-long = lines-long (texts f) (short-texts .0)
 
   padded-begun : begun (padded f) ≡ length (texts f)
   padded-begun = sym (records (padded f)) ∙ ap length padded-lines ∙ length-map (texts f) paddedLine
@@ -370,7 +374,7 @@ texts-fed ts c =
 unfoldable pub isFull : List ℕ → Bool
 isFull t = length t =? 80 & all isPrintable t
 
-not-printed : (b : ℕ) → isPrintable b ≡ true → b < 32 → ⊥
+pub not-printed : (b : ℕ) → isPrintable b ≡ true → b < 32 → ⊥
 unfolding isPrintable
 not-printed b h k = omega (arith, to-within h .0)
 
@@ -495,7 +499,7 @@ padded-alike t u p q e =
     (λ k. (length u - length t, inr (longer-by-blanks t u (to≤ k) q e)))
     (λ k. (length t - length u, inl (longer-by-blanks u t (omega (arith, no≤ k)) p (sym e))))
 
-short-at : (f : List ℕ) → judgeTexts 1 (texts f) ≡ accept → (i : ℕ) → i < length (texts f) → length (getD (texts f) i []) ≤ 80
+pub short-at : (f : List ℕ) → judgeTexts 1 (texts f) ≡ accept → (i : ℕ) → i < length (texts f) → length (getD (texts f) i []) ≤ 80
 short-at f h i k = to≤ (all-at (λ t. length t ≤? 80) (texts f) [] i (short-texts f h .0) k)
 
 -- two inputs pad to the same bytes exactly when they differ only in trimming and line ends

@@ -2,7 +2,8 @@ use Prim.Native.Nat.{_+_, _≤_}
 use native.Mathlib.Omega.{arith}
 use lib.ListN.{length}
 use borrow.Author.Needs.{needs}
-use Rattle.padding.proofs.WalkLaws.{start-within, start-is}
+use Rattle.padding.proofs.PassLaws.{start-within}
+use Rattle.padding.proofs.WalkLaws.{start-is}
 use Rattle.padding.proofs.counting.start_behind.Statement.{statement}
 use Rattle.padding.proofs.counting.start_behind.Tie as tie
 
