@@ -9,6 +9,9 @@
  * at all. Words of an answer beyond those named here stay as they are.
  *
  * number, record and column are the scope paper's fault: 0 0 0 is acceptance.
+ * Of a 9, a field not of its kind or range, shelf_check, shelf_rewrite and
+ * shelf_read give the first column at which no acceptable field begins with
+ * the characters up to there, shelf_write the field's first.
  * A kind is 0 to 13, in the order AA 10 11 12 25 26 27 70 72 80 86 91 92 93.
  */
 #ifndef SHELF_H

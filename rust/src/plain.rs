@@ -2,14 +2,15 @@
 //! paper and the requests have them.
 //!
 //! From below: `fields` reads and writes one field, `layout` says which
-//! fields a record has, `records` handles one record by itself, `walk`
-//! handles a whole file, `padding` fills the lines of one that is not judged
-//! yet, `sheet` prints, `words` puts answers into the form of the library's
-//! header.
+//! fields a record has, `pointing` finds the column to name of a bad field,
+//! `records` handles one record by itself, `walk` handles a whole file,
+//! `padding` fills the lines of one that is not judged yet, `sheet` prints,
+//! `words` puts answers into the form of the library's header.
 
 pub mod fields;
 pub mod layout;
 mod padding;
+mod pointing;
 mod records;
 mod sheet;
 mod walk;

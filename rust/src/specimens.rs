@@ -1,5 +1,6 @@
 //! The files that `crates/files_tried` is run on, each with the verdict that
-//! the rule paper gives it, found by hand and not by running anything.
+//! the rule paper and the requests give it, found by hand and not by running
+//! anything.
 //!
 //! `cargo run --example files_tried_data` writes them.
 
@@ -79,7 +80,7 @@ pub fn page(all: &[Specimen], inputs: &[Input]) -> String {
 const HEAD: &str = "\
 # The files tried
 
-Each is a whole B-file. The verdict is the rule paper's, found by hand; `rust/tests/paper/files_tried.rs` holds this table against the plain implementation, and the program prints the verdicts of the proved calls in the same order. Most are changes of one small file of 13 records: job code, *10*, *12*, *25*, two *27*, two *70*, two *72*, *80*, *86*, job code.
+Each is a whole B-file. The verdict is the rule paper's, the column of a fault 9 the request's, found by hand; `rust/tests/paper/files_tried.rs` holds this table against the plain implementation, and the program prints the verdicts of the proved calls in the same order. Most are changes of one small file of 13 records: job code, *10*, *12*, *25*, two *27*, two *70*, two *72*, *80*, *86*, job code.
 
 Fault 1 is tried on an accepted and on a refused one of these, with a table of 11,999 words and with an output of one byte less than the file. Fault 2 would take a file of 8 MB.
 

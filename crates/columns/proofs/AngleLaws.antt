@@ -12,7 +12,7 @@ use Rattle.rules.specs.Tests.{_&_, _≤?_, _=?_, within, all}
 use Rattle.rules.specs.Characters.{isDigit}
 use Rattle.rules.specs.Digits.{val, put}
 use Rattle.rules.specs.Items as items
-use Rattle.rules.specs.Items.{angle, num, signed, angleOf, dms, dmsForm, columns, top, low, plus, minusOf, angleValue, onNumber, width, shape, valueOf, fits, render, good, angleDigits, spot}
+use Rattle.rules.specs.Items.{angle, num, signed, angleOf, dms, dmsForm, columns, top, low, plus, minusOf, angleValue, onNumber, width, shape, valueOf, fits, render, good}
 use Rattle.rules.proofs.Truth.{both, to≤, of≤, of≡, cases, &-assoc, &-comm, true-and, of≢, or-cond}
 use Rattle.rules.proofs.DigitLaws.{length-put}
 use Rattle.rules.proofs.Lawful.{low-top}
@@ -87,18 +87,6 @@ module _ {m : Limits} {w : items.Way} (a : Agrees m w) (bs : List ℕ) where
       let size : length bs =? suc (columns w) ≡ true = of≡ (omega (arith, e, a .wide)) in
       rw (letter-is l (m .plus) (m .minus), k, q, a .wide, a .most, a .east, a .west, size, of≤ short, in-range w, true-and (all isDigit (take (columns w) bs) & dmsForm (val 0 (take (columns w) bs)) & angleOf (val 0 (take (columns w) bs)) ≤? top w), true-and)
       (sym (&-is _ _) ∙ swap _ _ _)
-
-  pub spot-letter : {r : Bool} → r ≡ (length (take (m .columns) bs) ≤? 16 & digitsUpTo (m .top) (take (m .columns) bs)) → r ≡ true → m .columns ≡ spot (angle w) bs
-  unfolding spot angleDigits digitsUpTo
-  spot-letter k h =
-      let d : digitsUpTo (top w) (take (columns w) bs) ≡ true = rw (a .wide, a .most, of≤ short, true-and) at (sym k ∙ h) in
-      a .wide ∙ sym (rw d)
-
-  pub spot-digits : {r : Bool} → r ≡ (length (take (m .columns) bs) ≤? 16 & digitsUpTo (m .top) (take (m .columns) bs)) → r ≡ false → 0 ≡ spot (angle w) bs
-  unfolding spot angleDigits digitsUpTo
-  spot-digits k h =
-      let d : digitsUpTo (top w) (take (columns w) bs) ≡ false = rw (a .wide, a .most, of≤ short, true-and) at (sym k ∙ h) in
-      sym (rw d)
 
   -- ---- reading
   pub angle-read : {v g l : ℕ} {z : ℤ} → v ≡ cond (length (take (m .columns) bs) ≤? 16) (val 0 (take (m .columns) bs)) 0 → g ≡ angleOf v → l ≡ getD bs (m .columns) 0

@@ -15,7 +15,7 @@ ghost use Prim.Native.Nat.{_-_, _≤_};
 ghost use lib.ListN.{length};
 ghost use Rattle.rules.specs.Tests.{_&_, _≤?_};
 ghost use Rattle.rules.specs.Digits.{put};
-ghost use Rattle.rules.specs.Items.{good, fits, valueOf, spot, angle, num, angleOf, dms};
+ghost use Rattle.rules.specs.Items.{good, fits, valueOf, angle, num, angleOf, dms};
 ghost use Rattle.columns.specs.Types.{wayOf, intOf};
 ghost use Rattle.columns.specs.Leaves.{limitsOf, digitsUpTo, longFits, written};
 
@@ -80,18 +80,6 @@ pub fn good_angle(part: &[u8], way: Way) -> bool
     }
     let letter = part[n];
     good_digits(&part[0..n], l.top) & ((letter == l.plus) | (letter == l.minus))
-}
-
-// Where a bad angle is at fault: at the letter, if the digits are good.
-pub fn angle_spot(part: &[u8], way: Way) -> usize
-    ensures { λ r. ⌜ r ≡ spot (angle (wayOf way)) (now (part .entry)) ⌝ }
-{
-    let l = limits_of(way);
-    let n = l.columns;
-    if good_digits(middle(part, 0, n), l.top) {
-        return n;
-    }
-    0
 }
 
 // Any columns give an angle that fits.

@@ -18,15 +18,22 @@ pub fn put_digits(out: &mut [u8], v: u64)
     }
 }
 
-pub fn put_blank(out: &mut [u8])
-    ensures { λ _. ⌜ now (out .exit) ≡ replicate (length (now (out .entry))) 32 ⌝ }
+// Every column is c.
+pub fn put_all(out: &mut [u8], c: u8)
+    ensures { λ _. ⌜ now (out .exit) ≡ replicate (length (now (out .entry))) c ⌝ }
 {
     let n = out.len();
     let mut i: usize = 0;
     while i < n {
-        out[i] = 32;
+        out[i] = c;
         i += 1;
     }
+}
+
+pub fn put_blank(out: &mut [u8])
+    ensures { λ _. ⌜ now (out .exit) ≡ replicate (length (now (out .entry))) 32 ⌝ }
+{
+    put_all(out, 32);
 }
 
 // A text of another width is not written.

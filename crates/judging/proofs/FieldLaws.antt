@@ -1,6 +1,6 @@
 -- One field of a line: one law for each way through the functions.
 use mathlib.Core.Path.{_≡_, refl, sym, _∙_, ap}
-use mathlib.Core.Bool.{Bool, true, false, cond, not, _&&_, _||_}
+use mathlib.Core.Bool.{Bool, true, false, not, _&&_, _||_}
 use mathlib.Core.List.{List}
 use Prim.Native.Nat.{ℕ, _+_, _-_, _≤_}
 use native.Mathlib.Omega.{arith}
@@ -10,9 +10,10 @@ use lib.Seq.{length-take-le}
 use Rattle.rules.specs.Tests.{all, _&_, _≤?_, _=?_}
 use Rattle.rules.specs.Characters.{isBlank}
 use Rattle.rules.specs.Items as rules
-use Rattle.rules.specs.Items.{latitude, longitude, blank, constant, number, height, angle, month, media, word, columns, angleDigits, good, spot}
+use Rattle.rules.specs.Items.{number, width, good, spot}
 use Rattle.rules.specs.Fields.{Expect, check, _⨾_, sameTruth, meets}
 use Rattle.rules.proofs.Truth.{true-and}
+use Rattle.rules.proofs.Lawful.{first-bad-most}
 use Rattle.kinds.specs.declared.tables.Item.{Item}
 use Rattle.kinds.specs.declared.tables.Bond.{Bond}
 use Rattle.kinds.specs.declared.tables.Bond.the-variants as B
@@ -21,7 +22,8 @@ use Rattle.kinds.specs.declared.Expect.the-variants as X
 use Rattle.kinds.specs.declared.Judged.{Judged}
 use Rattle.kinds.specs.Values.{judgedOf, expectOf}
 use Rattle.kinds.specs.Tables.{itemOf}
-use Rattle.judging.specs.Judging.{part, numberIn, agreesIn, judgeRow, sized}
+use Rattle.judging.specs.Judging.{part, numberIn, agreesIn, judgeField, refused, sized, spans}
+use Rattle.judging.proofs.SpotLaws.{spans-width, spans-80, spans-sized}
 
 -- ---- by what stands in the field
 module _ (j : Item) (bs : List ℕ) {i : Item} {r : Bool} where
@@ -81,22 +83,10 @@ module _ (e : Expect) (l bs : List ℕ) {b : Bond} where
     unfolding agreesIn
     agrees-with z x u y v q o = rw z (o ∙ rw (y, q, x))
 
-at-most : (b : Bool) (n : ℕ) → n ≤ 12 → cond b n 0 ≤ 12
-at-most true n h = h
-at-most false n h = omega arith
-
--- the fault is named within the first thirteen columns of a field
-pub spot-12 : (i : rules.Item) (bs : List ℕ) → spot i bs ≤ 12
-unfolding spot columns
-spot-12 (blank w) bs = omega arith
-spot-12 (constant c) bs = omega arith
-spot-12 (number w lo hi may) bs = omega arith
-spot-12 (height w may) bs = omega arith
-spot-12 (angle latitude) bs = at-most (angleDigits latitude (take 11 bs)) 11 (omega arith)
-spot-12 (angle longitude) bs = at-most (angleDigits longitude (take 12 bs)) 12 (omega arith)
-spot-12 month bs = omega arith
-spot-12 media bs = omega arith
-spot-12 (word w t) bs = omega arith
+-- no field is refused behind column 80 of it
+spot-80 : (i : rules.Item) (w : ℕ) → spans i w ≡ true → (bs : List ℕ) → spot i bs ≤ 80
+unfolding spot
+spot-80 i w h bs = omega (arith, first-bad-most i bs (width i - 1) 0, spans-width i w h, spans-80 i w h)
 
 -- ---- one row of a line that is long enough
 module _ (l : List ℕ) (c w : ℕ) (long : 80 ≤ length l) (p : 1 ≤ c) (q : c + w ≤ 81) where
@@ -123,27 +113,33 @@ module _ (l : List ℕ) (c w : ℕ) (long : 80 ≤ length l) (p : 1 ≤ c) (q : 
     agreed-is : (a : Bool) → a ≡ agreesIn e l b cut → a ≡ agreesIn e l b (part c w l)
     agreed-is a h = h ∙ ap (agreesIn e l b) cut-is
 
-    spot-is : (o : ℕ) → o ≡ spot (itemOf i (length cut)) cut → o ≡ spot (itemOf i w) (part c w l)
-    spot-is o h = h ∙ rw (cut-length, cut-is)
-
-    pub row-good : (g : Bool) → g ≡ good (itemOf i (length cut)) cut → g ≡ true → (a : Bool) → a ≡ agreesIn e l b cut → a ≡ true → Judged.Good ≡ judgedOf (judgeRow e l i b c w)
-    unfolding judgeRow check _⨾_ judgedOf
+    pub row-good : (g : Bool) → g ≡ good (itemOf i (length cut)) cut → g ≡ true → (a : Bool) → a ≡ agreesIn e l b cut → a ≡ true → Judged.Good ≡ judgedOf (judgeField e l i b c w)
+    unfolding judgeField check _⨾_ judgedOf
     row-good g h t a k u = rw (sym (formed-is g h) ∙ t, sym (agreed-is a k) ∙ u)
 
-    pub row-odd : (g : Bool) → g ≡ good (itemOf i (length cut)) cut → g ≡ true → (a : Bool) → a ≡ agreesIn e l b cut → a ≡ false → Judged.Bad 10 c ≡ judgedOf (judgeRow e l i b c w)
-    unfolding judgeRow check _⨾_ judgedOf
+    pub row-odd : (g : Bool) → g ≡ good (itemOf i (length cut)) cut → g ≡ true → (a : Bool) → a ≡ agreesIn e l b cut → a ≡ false → Judged.Bad 10 c ≡ judgedOf (judgeField e l i b c w)
+    unfolding judgeField check _⨾_ judgedOf
     row-odd g h t a k u = rw (sym (formed-is g h) ∙ t, sym (agreed-is a k) ∙ u)
 
-    pub row-bad : (g : Bool) → g ≡ good (itemOf i (length cut)) cut → g ≡ false → (o : ℕ) → o ≡ spot (itemOf i (length cut)) cut → Judged.Bad 9 (c + o) ≡ judgedOf (judgeRow e l i b c w)
-    unfolding judgeRow check _⨾_ judgedOf
-    row-bad g h t o k = rw (sym (formed-is g h) ∙ t, spot-is o k)
+    pub row-bad : (g : Bool) → g ≡ good (itemOf i (length cut)) cut → g ≡ false → Judged.Bad 9 c ≡ judgedOf (judgeField e l i b c w)
+    unfolding judgeField check _⨾_ judgedOf
+    row-bad g h t = rw (sym (formed-is g h) ∙ t)
 
-    pub cut-sized : sized (itemOf i w) ≡ true → sized (itemOf i (length cut)) ≡ true
-    cut-sized h = ap (λ n. sized (itemOf i n)) cut-length ∙ h
+  module _ (i : Item) (h : spans (itemOf i w) w ≡ true) where
+    pub cut-spans : spans (itemOf i (length cut)) (length cut) ≡ true
+    cut-spans = ap (λ n. spans (itemOf i n) n) cut-length ∙ h
 
-    -- where it is named there is room for the column
-    pub spot-small : (o : ℕ) → o ≡ spot (itemOf i (length cut)) cut → o ≤ 12
-    spot-small o k = rw k (spot-12 (itemOf i (length cut)) cut)
+    pub cut-sized : sized (itemOf i (length cut)) ≡ true
+    cut-sized = spans-sized (itemOf i (length cut)) (length cut) cut-spans
+
+    -- where it is refused there is room for the column
+    module _ (o : ℕ) (k : o ≡ spot (itemOf i (length cut)) cut) where
+      pub spot-small : o ≤ 80
+      spot-small = rw k (spot-80 (itemOf i (length cut)) (length cut) cut-spans cut)
+
+      pub refused-is : c + o ≡ refused l i c w
+      unfolding refused
+      refused-is = ap (λ n. c + n) (k ∙ rw (cut-length, cut-is))
 
 pub sized-number : (w lo hi : ℕ) (may : Bool) → sized (number w lo hi may) ≡ w ≤? 16
 unfolding sized

@@ -2,20 +2,21 @@
 use mathlib.Core.Path.{_≡_, refl, sym, _∙_, ap}
 use mathlib.Core.Bool.{Bool, true, false, _&&_, false≢true}
 use mathlib.Core.List.{List, map}
-use Prim.Native.Nat.{ℕ, _≤_, _<_}
+use Prim.Native.Nat.{ℕ, _+_, _≤_, _<_}
 use native.Mathlib.Omega.{arith}
 use lib.Dec.{eqb}
 use lib.ListN.{length, take, getD}
 use lib.Seq.{length-take-le}
 use Rattle.rules.specs.Tests.{all, within, _&_, _≤?_, _=?_}
 use Rattle.rules.specs.Characters.{isPrintable}
-use Rattle.rules.specs.Items.{number, good, spot}
+use Rattle.rules.specs.Items.{number, width, good, spot}
 use Rattle.rules.specs.Fields.{Expect, Verdict, ok, fault, check, _⨾_, isOk, read, judge}
 use Rattle.rules.specs.Layouts.{layouts, kept, layout}
 use Rattle.rules.specs.Kinds.{kindOf, known}
 use Rattle.rules.specs.Records.{sequence, bytes, codeAt, entries, numbered, readLine}
 use Rattle.rules.specs.Chapter4.{chapter4}
 use Rattle.rules.proofs.Truth.{both, to≤, of≤, of>, to≡, true-and}
+use Rattle.rules.proofs.Lawful.{spot-inside}
 use Rattle.rules.proofs.RecordLaws.{bytes-length}
 use Rattle.rules.proofs.Conforming.{bytes-of}
 use Rattle.columns.proofs.Loops.{&-is}
@@ -23,7 +24,7 @@ use Rattle.kinds.specs.declared.Judged.{Judged}
 use Rattle.kinds.specs.declared.Expect.the-variants as X
 use Rattle.kinds.specs.Values.{judgedOf, expectOf}
 use Rattle.kinds.proofs.ValueLaws.{good-is}
-use Rattle.judging.specs.Judging.{clean}
+use Rattle.judging.specs.Judging.{clean, sized, spans}
 use Rattle.judging.proofs.RowLaws.{bad-then}
 
 module _ (l : List ℕ) where
@@ -54,10 +55,23 @@ module _ (l : List ℕ) where
   unfolding sequence
   number-is h t e = e ∙ rw (six h) (ap (λ b. b & good (number 6 1 999_999 true) (take 6 l)) (of≤ {m = 6} {n = 16} (omega arith)) ∙ true-and _)
 
+  -- where they are refused
+  pub six-spans : 80 ≤ length l → spans (number (length (take 6 l)) 1 999_999 true) (length (take 6 l)) ≡ true
+  unfolding spans sized width _≤?_ _=?_ _&_
+  six-spans h = rw (six h)
+
+  pub number-spot : 80 ≤ length l → (o : ℕ) → o ≡ spot (number (length (take 6 l)) 1 999_999 true) (take 6 l) → o ≡ spot sequence (take 6 l)
+  unfolding sequence
+  number-spot h o e = e ∙ rw (six h)
+
+  pub spot-few : (o : ℕ) → o ≡ spot sequence (take 6 l) → o < 6
+  unfolding sequence
+  spot-few o e = rw e (unfold width in spot-inside sequence (take 6 l) (omega arith))
+
   module _ (k : ℕ) (e : Expect) where
-    pub rest-bad : (t : Bool) → t ≡ good sequence (take 6 l) → t ≡ false → Judged.Bad 9 1 ≡ judgedOf (numbered chapter4 l ⨾ judge e (map (read l) (getD layouts k kept)))
-    unfolding numbered check _⨾_ judgedOf sequence spot
-    rest-bad t z h = rw (sym z ∙ h)
+    pub rest-bad : (t : Bool) → t ≡ good sequence (take 6 l) → t ≡ false → (o : ℕ) → o ≡ spot sequence (take 6 l) → Judged.Bad 9 (1 + o) ≡ judgedOf (numbered chapter4 l ⨾ judge e (map (read l) (getD layouts k kept)))
+    unfolding numbered check _⨾_ judgedOf
+    rest-bad t z h o q = rw (sym z ∙ h, q)
 
     pub rest-good : (t : Bool) → t ≡ good sequence (take 6 l) → t ≡ true → {j : Judged} → j ≡ judgedOf (judge e (map (read l) (getD layouts k kept))) → j ≡ judgedOf (numbered chapter4 l ⨾ judge e (map (read l) (getD layouts k kept)))
     unfolding numbered check _⨾_

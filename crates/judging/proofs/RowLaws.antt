@@ -13,7 +13,7 @@ use Rattle.rules.specs.Digits.{val}
 use Rattle.rules.specs.Items.{Test, each, number, height, month, word, columns, width, valueOf, good, spot}
 use Rattle.rules.specs.Fields.{Expect, Verdict, ok, fault, isOk, check, _⨾_, columnsOf, read, valueAt, numOf, isMissing, agreesWith, agrees, judgeEach, judge}
 use Rattle.rules.specs.Layouts.{kept, layouts}
-use Rattle.rules.proofs.Truth.{both, to≤, of≤, to≡, cases}
+use Rattle.rules.proofs.Truth.{both, to≤, of≤, to≡, of≡, of≢, cases}
 use Rattle.rules.proofs.FieldLaws.{⨾-assoc}
 use Rattle.rules.proofs.FileLaws.{length-take-most}
 use Rattle.kinds.specs.declared.tables.Item.{Item}
@@ -26,7 +26,7 @@ use Rattle.kinds.specs.declared.Judged.{Judged}
 use Rattle.kinds.specs.Values.{judgedOf}
 use Rattle.kinds.proofs.TableLaws.{each-kind, begins, item-is, bond-is, first-is, width-is, row-passes, rows-from}
 use Rattle.kinds.proofs.ValueLaws.{good-is, bad-is}
-use Rattle.judging.specs.Judging.{part, numberIn, agreesIn, judgeRow, judgeRowAt, judgeRows, sized}
+use Rattle.judging.specs.Judging.{part, numberIn, agreesIn, judgeRow, judgeRows, judgeField, judgeFieldAt, refused, refusedAt, pointed, sized, spans}
 
 -- ---- verdicts one after the other
 then-on : (u v : Verdict) {w x : Verdict} → w ≡ x → (u ⨾ v) ⨾ w ≡ u ⨾ (v ⨾ x)
@@ -36,6 +36,11 @@ then-on u v {w} e = ⨾-assoc u v w ∙ ap (λ y. u ⨾ (v ⨾ y)) e
 pub bad-then : (u v : Verdict) (n c : ℕ) → judgedOf u ≡ Judged.Bad n c → judgedOf (u ⨾ v) ≡ Judged.Bad n c
 unfolding _⨾_
 bad-then u v n c e = rw (bad-is u n c e) (unfold judgedOf in refl)
+
+-- naming a 9 elsewhere leaves the fault the first
+pointed-then : (p n c : ℕ) (v : Verdict) → pointed p (fault n c) ⨾ v ≡ pointed p (fault n c)
+unfolding pointed _⨾_
+pointed-then p n c v = cases (n =? 9) (λ e. rw e) (λ e. rw e)
 
 pub good-then : (u v : Verdict) → judgedOf u ≡ Judged.Good → u ⨾ v ≡ v
 unfolding _⨾_
@@ -121,36 +126,60 @@ apart-judge e l = each-kind (Alike e l) refl refl refl
 pub rows-judge : (e : Expect) (l : List ℕ) (k : ℕ) → k < 14 → judgeRows e l (getD rowLists k []) ≡ judge e (map (read l) (getD layouts k kept))
 rows-judge e l k h = apart-is e l (getD rowLists k []) ∙ apart-judge e l k h
 
--- ---- each row lies inside a line, and a number is not too wide: one computed test
+-- ---- each row lies inside a line and is as wide as its field, and a number is not too wide: one computed test
 unfoldable inside : Row → Bool
-inside r = 1 ≤? r .first & r .first + r .width ≤? 81 & sized (itemOf (r .item) (r .width))
+inside r = 1 ≤? r .first & r .first + r .width ≤? 81 & spans (itemOf (r .item) (r .width)) (r .width)
 
 rows-inside : all inside rows ≡ true
-unfolding all inside sized _&_ _≤?_
+unfolding all inside spans sized width columns wayOf _&_ _≤?_ _=?_
 rows-inside = refl
 
 pub record Inside (i : Item) (c w : ℕ) : Type 0 where
   pub first : 1 ≤ c
   pub last : c + w ≤ 81
-  pub narrow : sized (itemOf i w) ≡ true
+  pub spanned : spans (itemOf i w) w ≡ true
 
 pub row-inside : (i : ℕ) → i < 67 → Inside (getD items i I.Blank) (getD firsts i 0) (getD widths i 0)
 unfolding inside
 row-inside i h =
     let t = row-passes inside rows-inside i h in
-    rw (item-is i, first-is i, width-is i) record { first = to≤ (both (both t .0) .0); last = to≤ (both (both t .0) .1); narrow = both t .1 }
+    rw (item-is i, first-is i, width-is i) record { first = to≤ (both (both t .0) .0); last = to≤ (both (both t .0) .1); spanned = both t .1 }
 
 -- the tables' answers put together
 pub at-requires : (i : ℕ) → i < 67 → {n : ℕ} → 80 ≤ n → (f : ℕ) → f ≡ getD firsts i 0 → (c : ℕ) → c ≡ f → (v : ℕ) → v ≡ getD widths i 0 → (w : ℕ) → w ≡ v → (it : Item) → it ≡ getD items i I.Blank
-    → (80 ≤ n) × (1 ≤ c) × (c + w ≤ 81) × (sized (itemOf it w) ≡ true)
+    → (80 ≤ n) × (1 ≤ c) × (c + w ≤ 81) × (spans (itemOf it w) w ≡ true)
 at-requires i h long f p c q v p′ w q′ it t =
     let r = row-inside i h in
-    (long, rw (q, p) (r .first), rw (q, p, q′, p′) (r .last), rw (t, q′, p′) (r .narrow))
+    (long, rw (q, p) (r .first), rw (q, p, q′, p′) (r .last), rw (t, q′, p′) (r .spanned))
 
 pub at-is : (e : Expect) (l : List ℕ) (i : ℕ) → (f : ℕ) → f ≡ getD firsts i 0 → (c : ℕ) → c ≡ f → (v : ℕ) → v ≡ getD widths i 0 → (w : ℕ) → w ≡ v → (it : Item) → it ≡ getD items i I.Blank
-    → (b : Bond) → b ≡ getD bonds i B.Free → {r : Judged} → r ≡ judgedOf (judgeRow e l it b c w) → r ≡ judgedOf (judgeRowAt e l i)
-unfolding judgeRowAt
+    → (b : Bond) → b ≡ getD bonds i B.Free → {r : Judged} → r ≡ judgedOf (judgeField e l it b c w) → r ≡ judgedOf (judgeFieldAt e l i)
+unfolding judgeFieldAt
 at-is e l i f p c q v p′ w q′ it t b u z = z ∙ rw (t, u, q, p, q′, p′)
+
+pub refused-row : (l : List ℕ) (i : ℕ) → (f : ℕ) → f ≡ getD firsts i 0 → (c : ℕ) → c ≡ f → (v : ℕ) → v ≡ getD widths i 0 → (w : ℕ) → w ≡ v → (it : Item) → it ≡ getD items i I.Blank
+    → {r : ℕ} → r ≡ refused l it c w → r ≡ refusedAt l i
+unfolding refusedAt
+refused-row l i f p c q v p′ w q′ it t z = z ∙ rw (t, q, p, q′, p′)
+
+pub pointed-is : (l : List ℕ) (i n c : ℕ) → n ≡ 9 → (p : ℕ) → p ≡ refusedAt l i → Judged.Bad 9 p ≡ judgedOf (pointed (refusedAt l i) (fault n c))
+unfolding pointed judgedOf
+pointed-is l i n c e p z = rw (of≡ e, z)
+
+pub pointed-not : (l : List ℕ) (i n c : ℕ) → (n ≡ 9 → ⊥) → Judged.Bad n c ≡ judgedOf (pointed (refusedAt l i) (fault n c))
+unfolding pointed judgedOf
+pointed-not l i n c e = rw (of≢ e)
+
+-- a row's 9 may be named at once or afterwards
+named-after : (g a : Bool) (c p : ℕ) → check g 9 p ⨾ check a 10 c ≡ pointed p (check g 9 c ⨾ check a 10 c)
+unfolding pointed check _⨾_ _=?_
+named-after true true c p = refl
+named-after true false c p = refl
+named-after false a c p = refl
+
+row-pointed : (e : Expect) (l : List ℕ) (i : Item) (b : Bond) (c w : ℕ) → judgeRow e l i b c w ≡ pointed (refused l i c w) (judgeField e l i b c w)
+unfolding judgeRow judgeField refused
+row-pointed e l i b c w = named-after _ _ _ _
 
 -- ---- the loop: the rows from i on are what was to judge at the start
 pub record Walked (e : Expect) (l : List ℕ) (kind end i : ℕ) : Type 0 where
@@ -167,15 +196,22 @@ module _ {e : Expect} {l : List ℕ} {kind end i : ℕ} (v : Walked e l kind end
   pub below : i < 67
   below = omega (arith, v .high)
 
-  step : judgeRows e l (slice i end rows) ≡ judgeRowAt e l i ⨾ judgeRows e l (slice (i + 1) end rows)
-  unfolding judgeRows judgeRowAt
-  step = ap (judgeRows e l) (rows-from i end h (v .high)) ∙ rw (item-is i, bond-is i, first-is i, width-is i)
+  step : judgeRows e l (slice i end rows) ≡ pointed (refusedAt l i) (judgeFieldAt e l i) ⨾ judgeRows e l (slice (i + 1) end rows)
+  unfolding judgeRows judgeFieldAt refusedAt
+  step =
+      ap (judgeRows e l) (rows-from i end h (v .high))
+      ∙ rw (item-is i, bond-is i, first-is i, width-is i) (ap (λ u. u ⨾ judgeRows e l (slice (i + 1) end rows)) (row-pointed e l _ _ _ _))
 
-  pub walk-stop : (j : Judged) → j ≡ judgedOf (judgeRowAt e l i) → (n c : ℕ) → j ≡ Judged.Bad n c → Judged.Bad n c ≡ judgedOf (judge e (map (read l) (getD layouts kind kept)))
-  walk-stop j p n c q = sym (ap judgedOf (sym (v .same) ∙ step) ∙ bad-then _ _ n c (sym p ∙ q))
+  pub walk-stop : (j : Judged) → j ≡ judgedOf (judgeFieldAt e l i) → (n c : ℕ) → j ≡ Judged.Bad n c → {r : Judged} → r ≡ judgedOf (pointed (refusedAt l i) (fault n c)) → r ≡ judgedOf (judge e (map (read l) (getD layouts kind kept)))
+  walk-stop j p n c q z =
+      let bad : judgeFieldAt e l i ≡ fault n c = bad-is (judgeFieldAt e l i) n c (sym p ∙ q) in
+      z ∙ ap judgedOf (sym (sym (v .same) ∙ step ∙ ap (λ u. pointed (refusedAt l i) u ⨾ judgeRows e l (slice (i + 1) end rows)) bad ∙ pointed-then (refusedAt l i) n c _))
 
-  pub walk-on : (j : Judged) → j ≡ judgedOf (judgeRowAt e l i) → j ≡ Judged.Good → Walked e l kind end (i + 1)
-  walk-on j p q = record { low = omega arith; high = v .high; same = sym (good-then _ _ (sym p ∙ q)) ∙ sym step ∙ v .same }
+  pub walk-on : (j : Judged) → j ≡ judgedOf (judgeFieldAt e l i) → j ≡ Judged.Good → Walked e l kind end (i + 1)
+  unfolding pointed _⨾_
+  walk-on j p q =
+      let on : judgeRows e l (slice i end rows) ≡ judgeRows e l (slice (i + 1) end rows) = step ∙ ap (λ u. pointed (refusedAt l i) u ⨾ judgeRows e l (slice (i + 1) end rows)) (good-is (judgeFieldAt e l i) (sym p ∙ q)) in
+      record { low = omega arith; high = v .high; same = sym on ∙ v .same }
 
 pub walk-done : {e : Expect} {l : List ℕ} {kind end i : ℕ} → Walked e l kind end i → end ≤ i → Judged.Good ≡ judgedOf (judge e (map (read l) (getD layouts kind kept)))
 unfolding judgeRows judgedOf

@@ -1,7 +1,8 @@
 // The fields of a line from the left, each of its kind and range (9) and in agreement with earlier ones (10).
+use crate::spots::FieldKind;
+use crate::spots::first_bad;
 use columns::Set;
 use columns::Way;
-use columns::angles::angle_spot;
 use columns::angles::good_angle;
 use columns::heights::good_height;
 use columns::labels::good_media;
@@ -30,11 +31,11 @@ ghost use mathlib.Core.List.{map};
 ghost use Prim.Native.Nat.{_+_, _≤_, _<_};
 ghost use lib.ListN.{length, getD};
 ghost use Rattle.rules.specs.Items.{good, spot};
-ghost use Rattle.rules.specs.Fields.{read, judge, meets, sameTruth};
+ghost use Rattle.rules.specs.Fields.{fault, read, judge, meets, sameTruth};
 ghost use Rattle.rules.specs.Layouts.{layouts, kept};
 ghost use Rattle.kinds.specs.Tables.{itemOf};
 ghost use Rattle.kinds.specs.Values.{judgedOf, expectOf};
-ghost use Rattle.judging.specs.Judging.{part, agreesIn, judgeRow, judgeRowAt, sized};
+ghost use Rattle.judging.specs.Judging.{part, agreesIn, judgeField, judgeFieldAt, refused, refusedAt, pointed, sized, kindIn, spans};
 
 // Of its kind and range.
 fn good_item(item: Item, part: &[u8]) -> bool
@@ -66,33 +67,41 @@ fn good_item(item: Item, part: &[u8]) -> bool
     }
 }
 
-// How far into a bad field the fault is named: an angle's letter is a field of its own.
-fn spot_item(item: Item, part: &[u8]) -> usize
-    ensures { λ r. ⌜ r ≡ spot (itemOf item (length (now (part .entry)))) (now (part .entry)) ⌝ }
+// The kind of field that stands there.
+fn field_kind(item: Item) -> FieldKind
+    ensures { λ r. ⌜ r ≡ kindIn item ⌝ }
 {
     match item {
-        Item::Blank => 0,
-        Item::Method => 0,
-        Item::Station => 0,
-        Item::Equipment => 0,
-        Item::Date => 0,
-        Item::Time => 0,
-        Item::Rise => 0,
-        Item::Metres => 0,
-        Item::Month => 0,
-        Item::Media => 0,
-        Item::Latitude => angle_spot(part, Way::Latitude),
-        Item::Longitude => angle_spot(part, Way::Longitude),
-        Item::Letter => 0,
-        Item::LetterOrSpace => 0,
-        Item::LetterOrDigitOrSpace => 0,
-        Item::YesNoOrSpace => 0,
-        Item::Pair => 0,
-        Item::Datum => 0,
-        Item::Title => 0,
-        Item::Name => 0,
-        Item::Printable => 0,
+        Item::Blank => FieldKind::Blank,
+        Item::Method => FieldKind::Constant(b'4'),
+        Item::Station => FieldKind::Number(1, 9999, false),
+        Item::Equipment => FieldKind::Number(1, 999, false),
+        Item::Date => FieldKind::Number(0, 999_999, false),
+        Item::Time => FieldKind::Number(0, 9999, false),
+        Item::Rise => FieldKind::Height(false),
+        Item::Metres => FieldKind::Height(true),
+        Item::Month => FieldKind::Month,
+        Item::Media => FieldKind::Media,
+        Item::Latitude => FieldKind::Angle(Way::Latitude),
+        Item::Longitude => FieldKind::Angle(Way::Longitude),
+        Item::Letter => FieldKind::Word(Set::Letter),
+        Item::LetterOrSpace => FieldKind::Word(Set::LetterOrSpace),
+        Item::LetterOrDigitOrSpace => FieldKind::Word(Set::LetterOrDigitOrSpace),
+        Item::YesNoOrSpace => FieldKind::Word(Set::YesNoOrSpace),
+        Item::Pair => FieldKind::WordOrBlank(Set::Digit),
+        Item::Datum => FieldKind::WordOrBlank(Set::LetterOrDigit),
+        Item::Title => FieldKind::Word(Set::Title),
+        Item::Name => FieldKind::Word(Set::Name),
+        Item::Printable => FieldKind::Word(Set::Printable),
     }
+}
+
+// How far into a bad field the fault is named.
+fn spot_item(item: Item, part: &[u8]) -> usize
+    requires { ⌜ spans (itemOf item (length (now part))) (length (now part)) ≡ true ⌝ }
+    ensures { λ r. ⌜ r ≡ spot (itemOf item (length (now (part .entry)))) (now (part .entry)) ⌝ }
+{
+    first_bad(part, field_kind(item))
 }
 
 fn long(n: u32) -> u64
@@ -140,10 +149,10 @@ fn agrees_item(e: Expect, line: &[u8], bond: Bond, part: &[u8]) -> bool
     }
 }
 
-// One field: 9 before 10.
+// One field: 9 before 10, named at its first column.
 fn judge_row(e: Expect, line: &[u8], item: Item, bond: Bond, first: usize, width: usize) -> Judged
-    requires { ⌜ (80 ≤ length (now line)) × (1 ≤ first) × (first + width ≤ 81) × (sized (itemOf item width) ≡ true) ⌝ }
-    ensures { λ r. ⌜ r ≡ judgedOf (judgeRow (expectOf e) (now (line .entry)) item bond first width) ⌝ }
+    requires { ⌜ (80 ≤ length (now line)) × (1 ≤ first) × (first + width ≤ 81) × (spans (itemOf item width) width ≡ true) ⌝ }
+    ensures { λ r. ⌜ r ≡ judgedOf (judgeField (expectOf e) (now (line .entry)) item bond first width) ⌝ }
 {
     let at = first - 1;
     let end = at + width;
@@ -154,16 +163,46 @@ fn judge_row(e: Expect, line: &[u8], item: Item, bond: Bond, first: usize, width
         }
         return Judged::Bad(10, first);
     }
-    Judged::Bad(9, first + spot_item(item, part))
+    Judged::Bad(9, first)
 }
 
 fn judge_at(e: Expect, line: &[u8], i: usize) -> Judged
     requires { ⌜ (80 ≤ length (now line)) × (i < 67) ⌝ }
-    ensures { λ r. ⌜ r ≡ judgedOf (judgeRowAt (expectOf e) (now (line .entry)) i) ⌝ }
+    ensures { λ r. ⌜ r ≡ judgedOf (judgeFieldAt (expectOf e) (now (line .entry)) i) ⌝ }
 {
     let first = wide(first_at(i));
     let width = wide(width_at(i));
     judge_row(e, line, item_at(i), bond_at(i), first, width)
+}
+
+// The column at which a field is refused.
+fn refused_in(line: &[u8], item: Item, first: usize, width: usize) -> usize
+    requires { ⌜ (80 ≤ length (now line)) × (1 ≤ first) × (first + width ≤ 81) × (spans (itemOf item width) width ≡ true) ⌝ }
+    ensures { λ r. ⌜ r ≡ refused (now (line .entry)) item first width ⌝ }
+{
+    let at = first - 1;
+    let end = at + width;
+    first + spot_item(item, &line[at..end])
+}
+
+fn refused_at(line: &[u8], i: usize) -> usize
+    requires { ⌜ (80 ≤ length (now line)) × (i < 67) ⌝ }
+    ensures { λ r. ⌜ r ≡ refusedAt (now (line .entry)) i ⌝ }
+{
+    let first = wide(first_at(i));
+    let width = wide(width_at(i));
+    refused_in(line, item_at(i), first, width)
+}
+
+// The fault of row i, a 9 named at its character. It is asked for once, behind the loop's good path.
+fn point_at(line: &[u8], i: usize, n: u32, c: usize) -> Judged
+    requires { ⌜ (80 ≤ length (now line)) × (i < 67) ⌝ }
+    ensures { λ r. ⌜ r ≡ judgedOf (pointed (refusedAt (now (line .entry)) i) (fault n c)) ⌝ }
+{
+    if n == 9 {
+        return Judged::Bad(9, refused_at(line, i));
+    }
+    Judged::Bad(n, c)
 }
 
 // The fields from column 11 on of a line of a kind, row by row of the tables: the first fault.
@@ -176,7 +215,7 @@ pub(crate) fn judge_fields(line: &[u8], kind: usize, e: Expect) -> Judged
     while i < end {
         let j = judge_at(e, line, i);
         if let Judged::Bad(n, c) = j {
-            return Judged::Bad(n, c);
+            return point_at(line, i, n, c);
         }
         i += 1;
     }

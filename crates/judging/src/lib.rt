@@ -3,3 +3,4 @@ pub mod bytes;
 pub mod codes;
 pub mod fields;
 pub mod lines;
+pub mod spots;

@@ -2,6 +2,8 @@
 use crate::bytes::find_bad;
 use crate::codes::kind_at;
 use crate::fields::judge_fields;
+use crate::spots::FieldKind;
+use crate::spots::first_bad;
 use columns::numbers::good_number;
 use columns::sets::all_within;
 use kinds::Expect;
@@ -13,7 +15,7 @@ ghost use mathlib.Core.Bool.{true};
 ghost use mathlib.Core.List.{map};
 ghost use Prim.Native.Nat.{_≤_, _<_};
 ghost use lib.ListN.{length, getD, take};
-ghost use Rattle.rules.specs.Items.{good};
+ghost use Rattle.rules.specs.Items.{good, spot};
 ghost use Rattle.rules.specs.Fields.{read, judge, _⨾_};
 ghost use Rattle.rules.specs.Layouts.{layouts, kept};
 ghost use Rattle.rules.specs.Records.{sequence, bytes, numbered, readLine};
@@ -51,6 +53,16 @@ fn has_number(line: &[u8]) -> bool
     good_number(&line[at..end], 1, 999_999, true)
 }
 
+// How far into columns 1-6 they are refused.
+fn spot_number(line: &[u8]) -> usize
+    requires { ⌜ 80 ≤ length (now line) ⌝ }
+    ensures { λ r. ⌜ r ≡ spot sequence (take 6 (now (line .entry))) ⌝ }
+{
+    let at = Sequence::NUMBER - 1;
+    let end = at + Sequence::NUMBER_WIDTH;
+    first_bad(&line[at..end], FieldKind::Number(1, 999_999, true))
+}
+
 // Columns 1-6, then the fields of the kind.
 pub fn judge_rest(line: &[u8], kind: usize, e: Expect) -> Judged
     requires { ⌜ (80 ≤ length (now line)) × (kind < 14) ⌝ }
@@ -59,7 +71,7 @@ pub fn judge_rest(line: &[u8], kind: usize, e: Expect) -> Judged
     if has_number(line) {
         return judge_fields(line, kind, e);
     }
-    Judged::Bad(9, Sequence::NUMBER)
+    Judged::Bad(9, Sequence::NUMBER + spot_number(line))
 }
 
 // A record by itself, as read judges it.

@@ -9,7 +9,7 @@ use lib.ListN.{length, length-append}
 use Rattle.rules.specs.Tests.{all, _≤?_, _=?_}
 use Rattle.rules.specs.Characters.{isDigit}
 use Rattle.rules.specs.Digits.{val, put, stripped, numeral}
-use Rattle.rules.proofs.Truth.{all-append, of-within, and, both, to≤, to≡, cases}
+use Rattle.rules.proofs.Truth.{all-append, of-within, and, both, to≤, to≡, of≡, cases}
 
 pub length-put : (w n : ℕ) → length (put w n) ≡ w
 unfolding put
@@ -25,6 +25,31 @@ pub val-snoc : (a : ℕ) (xs : List ℕ) (b : ℕ) → val a (xs ++ b ∷ []) �
 unfolding val
 val-snoc a [] b = refl
 val-snoc a (x ∷ xs) b = val-snoc (a * 10 + (x - 48)) xs b
+
+-- a number cut in two
+pub val-append : (a : ℕ) (xs ys : List ℕ) → val a (xs ++ ys) ≡ val (val a xs) ys
+unfolding val
+val-append a [] ys = refl
+val-append a (x ∷ xs) ys = val-append (a * 10 + (x - 48)) xs ys
+
+pub val-from : (a : ℕ) (ys : List ℕ) → val a ys ≡ a * 10 ^ length ys + val 0 ys
+unfolding val
+val-from a [] = omega arith
+val-from a (b ∷ ys) =
+    let e : a * 10 ^ suc (length ys) ≡ a * 10 * 10 ^ length ys = ap (λ k. a * k) (pow-succ' 10 (length ys)) ∙ sym (mul-assoc a 10 (10 ^ length ys)) in
+    val-from (a * 10 + (b - 48)) ys ∙ omega (arith, e, val-from (0 * 10 + (b - 48)) ys)
+
+pub val-zeros : (a : ℕ) (bs : List ℕ) → all (λ b. b =? 48) bs ≡ true → val a bs ≡ a * 10 ^ length bs
+unfolding val all
+val-zeros a [] h = omega arith
+val-zeros a (b ∷ bs) h =
+    let z : a * 10 + (b - 48) ≡ a * 10 = omega (arith, to≡ (both h .0)) in
+    ap (λ k. val k bs) z ∙ val-zeros (a * 10) bs (both h .1) ∙ mul-assoc a 10 (10 ^ length bs) ∙ ap (λ k. a * k) (sym (pow-succ' 10 (length bs)))
+
+pub put-zeros : (w : ℕ) → all (λ b. b =? 48) (put w 0) ≡ true
+unfolding put all
+put-zeros zero = refl
+put-zeros (suc w) = all-append (λ b. b =? 48) (put w 0) _ (put-zeros w) (and (of≡ {m = 48} refl) refl)
 
 pub val-put : (w n : ℕ) → n < 10 ^ w → val 0 (put w n) ≡ n
 unfolding val put

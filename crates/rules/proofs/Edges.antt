@@ -1,5 +1,5 @@
 -- The edges of every field: contents of its columns just inside, which are taken, and just outside, which are refused with their fault and column.
--- Written from 01 (*27* *70* *72* from docs/LAYOUT.md) and not from the definitions, to be held beside it.
+-- Written from 01, 02 (T-02) and, of *27* *70* *72*, docs/LAYOUT.md, and not from the definitions, to be held beside them.
 use mathlib.Core.Path.{_≡_, refl}
 use mathlib.Core.Bool.{Bool, true, false, cond}
 use mathlib.Core.List.{List, [], _∷_, _++_}
@@ -32,11 +32,18 @@ parted now (b ∷ bs) = cond (b =? 124) (now ∷ parted [] bs) (parted (now ++ b
 
 pub data Row : Type 0 where
   takes : (from : ℕ) → String → Row  -- each of these contents is good
+  refuses : (from : ℕ) → String → Row  -- each of these contents is fault 9 at the character behind its caret
   wrong : (number column from : ℕ) → String → Row  -- each of these contents has this fault at this column
-  holds : (from width : ℕ) → String → String → Row  -- full of each of the first characters it is good; each of the others, in its first or last column, is fault 9
+  holds : (from width : ℕ) → String → String → Row  -- full of each of the first characters it is good; each of the others, in its first or last column, is fault 9 there
 
-abbrev refuses : ℕ → String → Row
-refuses c s = wrong 9 c c s
+-- how many characters stand before the caret, and the contents without it
+unfoldable pub caretIn : List ℕ → ℕ
+caretIn [] = 0
+caretIn (b ∷ bs) = let rest = caretIn bs in cond (b =? 94) 0 (rest + 1)
+
+unfoldable pub bare : List ℕ → List ℕ
+bare [] = []
+bare (b ∷ bs) = let rest = bare bs in cond (b =? 94) bs (b ∷ rest)
 
 unfoldable pub sameVerdict : Verdict → Verdict → Bool
 unfolding _&_ _=?_
@@ -51,17 +58,24 @@ unfolding judged laid sameVerdict
 unlike l v c [] = []
 unlike l v c (bs ∷ more) = let rest = unlike l v c more in cond (sameVerdict (readLine chapter4 (laid c bs l)) v) rest (bs ∷ rest)
 
+-- the same of contents with a caret
+unfoldable pub unlikeCaret : List ℕ → ℕ → List (List ℕ) → List (List ℕ)
+unfolding judged laid sameVerdict caretIn bare
+unlikeCaret l c [] = []
+unlikeCaret l c (bs ∷ more) = let rest = unlikeCaret l c more in cond (sameVerdict (readLine chapter4 (laid c (bare bs) l)) (fault 9 (c + caretIn bs))) rest (bs ∷ rest)
+
 unfoldable pub fullOf : ℕ → List ℕ → List (List ℕ)
 fullOf w [] = []
 fullOf w (b ∷ bs) = replicate w b ∷ fullOf w bs
 
 -- what a row says of a line and the line does not do
 unfoldable pub failing : List ℕ → Row → List (List ℕ)
-unfolding ascii parted unlike fullOf
+unfolding ascii parted unlike unlikeCaret fullOf
 failing l (takes c s) = unlike l ok c (parted [] (ascii s))
+failing l (refuses c s) = unlikeCaret l c (parted [] (ascii s))
 failing l (wrong n d c s) = unlike l (fault n d) c (parted [] (ascii s))
 failing l (holds c w good bad) =
-    unlike l ok c (fullOf w (ascii good)) ++ (unlike l (fault 9 c) c (fullOf 1 (ascii bad)) ++ unlike l (fault 9 c) (c + w - 1) (fullOf 1 (ascii bad)))
+    unlike l ok c (fullOf w (ascii good)) ++ (unlike l (fault 9 c) c (fullOf 1 (ascii bad)) ++ unlike l (fault 9 (c + w - 1)) (c + w - 1) (fullOf 1 (ascii bad)))
 
 unfoldable pub failures : List ℕ → List Row → List (List ℕ)
 unfolding failing
@@ -134,23 +148,23 @@ names c w = holds c w "AZ09*,'=)(-.+/ " "!&:<>@[\\]^_az~"
 
 -- station 1-9999
 abbrev stations : List Row
-stations = takes 11 "0001|9999|   1|  12| 012" ∷ refuses 11 "0000|   0|    |1   |001 |1 23|-001|  -1|+001|000/|000:|/001|:001|000A|0.01" ∷ []
+stations = takes 11 "0001|9999|   1|  12| 012" ∷ refuses 11 "000^0|   ^0|   ^ |1^   |001^ |1^ 23|^-001|  ^-1|^+001|000^/|000^:|^/001|^:001|000^A|0^.01" ∷ []
 
 -- instrument, antenna and equipment code 1-999
 abbrev hundreds : ℕ → List Row
-hundreds c = takes c "001|999|  1| 12" ∷ refuses c "000|  0|   |1  |01 |1 2|-01| -1|+01|00/|00:|/01|:01|00A" ∷ []
+hundreds c = takes c "001|999|  1| 12" ∷ refuses c "00^0|  ^0|  ^ |1^  |01^ |1^ 2|^-01| ^-1|^+01|00^/|00^:|^/01|^:01|00^A" ∷ []
 
 -- 9(4.3) in seven columns, where the height is there
 abbrev sevens : ℕ → List Row
 sevens c =
     takes c "0000000|9999999|-999999|-000000|-000001|      0|     -1|    -12|  12345"
-    ∷ refuses c "      -|-      |1      |012345 |12 3456|- 12345|--12345|+012345|1-23456|012345/|012345:|/012345|:012345|012345A|1234.56" ∷ []
+    ∷ refuses c "      ^-|-^      |1^      |012345^ |12^ 3456|-^ 12345|-^-12345|^+012345|1^-23456|012345^/|012345^:|^/012345|^:012345|012345^A|1234^.56" ∷ []
 
 -- ---- every record: the sequence number, the code, the bytes
 pub edges-line :
     edges "000010*26*TEXT" (
     takes 1 "      |000001|     1|999999| 00001"
-    ∷ refuses 1 "000000|     0|1     |00001 |1 0000|-00001|    -1|+00001|00000/|00000:|/00001|:00001|00000A"
+    ∷ refuses 1 "00000^0|     ^0|1^     |10^    |00001^ |1^ 0000|^-00001|    ^-1|^+00001|00000^/|00000^:|^/00001|^:00001|00000^A"
     ∷ wrong 6 7 7 "*13*|*28*|*@A*|*[A*|*A@*|*A[*|*A/*|*A:*|*0A*|*aA*|*Aa*|*A *|* A*|*  *|+A1*|)A1*|*A1+|*A1)|**1*|*1**"
     ∷ wrong 4 1 1 "\u{1f}|\u{7f}|\n|\0" ∷ wrong 4 7 7 "\u{1f}|\u{7f}" ∷ wrong 4 80 80 "\u{1f}|\u{7f}|\n|\r"
     ∷ wrong 5 81 81 "\r| |\u{b}|\t|\u{1a}" ∷ [])
@@ -181,9 +195,9 @@ pub edges-12 :
     edges "      *12*202401202402JDCCRUZ              ABCREYES                        4MD" (
     -- 11-16 and 17-22 YYYYMM, six digits, year 0001-9999, month 01-12, not missing, the end not before the beginning
     takes 11 "000101|000112|202401|202402|000101000101|999912999912"
-    ∷ refuses 11 "000001|000012|202400|202413|202499|      | 02401|20240 |2024 1|-02401|20240/|20240:|/02401|:02401|20240A"
+    ∷ refuses 11 "000^001|000^012|20240^0|20241^3|2024^20|2024^99|^      |^ 02401|20240^ |2024^ 1|^-02401|20240^/|20240^:|^/02401|^:02401|20240^A"
     ∷ takes 17 "202401|202402|202412|999912"
-    ∷ refuses 17 "000001|000012|202400|202413|202499|      | 02402|20240 |2024 2|-02402|20240/|20240:|/02402|:02402|20240A"
+    ∷ refuses 17 "000^001|000^012|20240^0|20241^3|2024^20|2024^99|^      |^ 02402|20240^ |2024^ 2|^-02402|20240^/|20240^:|^/02402|^:02402|20240^A|2023^X1"
     ∷ wrong 10 17 11 "202403|999912|202402202401" ∷ wrong 10 17 17 "202312|000101"
     -- 23-25 and 44-46 A-Z or space; 26-43 and 47-64 as *10* without the backslash
     ∷ lettersOrSpace 23 3 ∷ names 26 18 ∷ lettersOrSpace 44 3 ∷ names 47 18
@@ -199,10 +213,10 @@ pub edges-25 :
     stations ++ (
     -- 15-24: a letter, three digits 001-366, a digit, a letter or digit, four printable
     takes 15 "A0010A    |Z3669Z~~~~|M10000/\"{}|M299999999"
-    ∷ refuses 15 "@0010A    |[0010A    |a0010A    |00010A    | 0010A    "
-    ∷ refuses 15 "A0000A    |A3670A    |A9990A    |A  10A    |A01 0A    |A   0A    |A-010A    |A00/0A    |A00:0A    |A/010A    |A:010A    "
-    ∷ refuses 15 "A001/A    |A001:A    |A001 A    |A001AA    "
-    ∷ refuses 15 "A0010/    |A0010:    |A0010@    |A0010[    |A0010a    |A0010     "
+    ∷ refuses 15 "^@0010A    |^[0010A    |^a0010A    |^00010A    |^ 0010A    "
+    ∷ refuses 15 "A00^00A    |A36^70A    |A3^700A    |A^4000A    |A^9990A    |A^  10A    |A01^ 0A    |A^   0A    |A^-010A    |A00^/0A    |A00^:0A    |A^/010A    |A^:010A    "
+    ∷ refuses 15 "A001^/A    |A001^:A    |A001^ A    |A001^AA    "
+    ∷ refuses 15 "A0010^/    |A0010^:    |A0010^@    |A0010^[    |A0010^a    |A0010^     "
     ∷ lettersOrSpace 25 3 ∷ [])
     ++ hundreds 28 ++ spacer 31 2 ∷ hundreds 33 ++ spacer 36 45 ∷ [])
     ≡ []
@@ -215,13 +229,13 @@ pub edges-80 :
     stations ++ (anyText 15 30
     -- 45-55 latitude, 56 N or S: minutes and whole seconds below 60, at most 90 degrees
     ∷ takes 45 "00000000000N|00000000000S|00000000001S|00005999999N|00595999999S|89595999999N|89595999999S|90000000000N|90000000000S"
-    ∷ refuses 45 "90000000001N|90000000001S|90000100000N|90010000000N|91000000000N|99000000000S|00006000000N|00600000000N|00605959999S|00009999999N|00990000000S"
-    ∷ refuses 45 " 8531512345N|3853151234 N|38 31512345N|-8531512345N|3853151234/N|3853151234:N|/8531512345N|:8531512345N|3853151234AN|           N"
+    ∷ refuses 45 "9000000000^1N|9000000000^1S|90000^100000N|900^10000000N|90^600000000N|9^1000000000N|9^9000000000S|0000^6000000N|00^600000000N|00^605959999S|0000^9999999N|00^990000000S"
+    ∷ refuses 45 "^ 8531512345N|3853151234^ N|38^ 31512345N|^-8531512345N|3853151234^/N|3853151234^:N|^/8531512345N|^:8531512345N|3853151234^AN|^           N"
     ∷ holds 56 1 "NS" "MORTEWns 0"
     -- 57-68 longitude, 69 E or W: at most 180 degrees
     ∷ takes 57 "000000000000E|000000000000W|000000000001W|000005999999E|000595999999W|179595999999E|179595999999W|180000000000E|180000000000W"
-    ∷ refuses 57 "180000000001E|180000000001W|180000100000W|180010000000E|181000000000E|190000000000W|999000000000E|000006000000E|000600000000W|000605959999E|000009999999E|000990000000W"
-    ∷ refuses 57 " 21003007500W|12100300750 W|121 03007500W|-21003007500W|12100300750/W|12100300750:W|/21003007500W|:21003007500W|12100300750AW|            W"
+    ∷ refuses 57 "18000000000^1E|18000000000^1W|180000^100000W|1800^10000000E|18^1000000000E|1^90000000000W|^200000000000E|^999000000000E|00000^6000000E|000^600000000W|000^605959999E|00000^9999999E|000^990000000W"
+    ∷ refuses 57 "^ 21003007500W|12100300750^ W|121^ 03007500W|^-21003007500W|12100300750^/W|12100300750^:W|^/21003007500W|^:21003007500W|12100300750^AW|^            W"
     ∷ holds 69 1 "EW" "DFVXNSew 0"
     ∷ spacer 70 7 ∷ letters 77 2 ∷ spacer 79 2 ∷ []))
     ≡ []
@@ -235,20 +249,20 @@ pub edges-86 :
     -- 17-23 orthometric height, 24 code A-Z, 27 Y or N: blank exactly when the height is missing
     ∷ sevens 17 ++ wrong 10 24 17 "       |       A12 "
     ∷ takes 17 "        12 |           " ∷ wrong 10 27 17 "        12Y|        12N|0000000A12 "
-    ∷ takes 24 "A|Z" ∷ refuses 24 "@|[|a|z|0|9|!|-" ∷ wrong 10 24 24 " "
+    ∷ takes 24 "A|Z" ∷ refuses 24 "^@|^[|^a|^z|^0|^9|^!|^-" ∷ wrong 10 24 24 " "
     -- 25-26 digit pair: two digits or two blanks
-    ∷ takes 25 "00|99|09|90|  " ∷ refuses 25 "1 | 1|0 | 0|/0|:0|0/|0:|A0|0A|-1|! "
-    ∷ takes 27 "Y|N" ∷ refuses 27 "X|Z|M|O|y|n|0|!" ∷ wrong 10 27 27 " "
+    ∷ takes 25 "00|99|09|90|  " ∷ refuses 25 "1^ | ^1|0^ | ^0|^/0|^:0|0^/|0^:|^A0|0^A|^-1|^! "
+    ∷ takes 27 "Y|N" ∷ refuses 27 "^X|^Z|^M|^O|^y|^n|^0|^!" ∷ wrong 10 27 27 " "
     -- 28-29 letters and digits, or both blank
-    ∷ takes 28 "AA|ZZ|00|99|A0|9Z|  " ∷ refuses 28 "A | A|9 | 0|@A|[A|A@|A[|/0|:0|0/|0:|aA|Aa|! "
+    ∷ takes 28 "AA|ZZ|00|99|A0|9Z|  " ∷ refuses 28 "A^ | ^A|9^ | ^0|^@A|^[A|A^@|A^[|^/0|^:0|0^/|0^:|^aA|A^a|^a8|8^:|^! "
     ∷ anyText 30 6
     -- 36-42 geoid height, 43 code A-Z or 0-9
     ∷ sevens 36 ++ wrong 10 43 36 "       " ∷ takes 36 "        "
-    ∷ takes 43 "A|Z|0|9" ∷ refuses 43 "@|[|/|:|a|z|!|-" ∷ wrong 10 43 43 " "
+    ∷ takes 43 "A|Z|0|9" ∷ refuses 43 "^@|^[|^/|^:|^a|^z|^!|^-" ∷ wrong 10 43 43 " "
     ∷ spacer 44 2
     -- 46-52 ellipsoid height, 53 code A-Z
     ∷ sevens 46 ++ wrong 10 53 46 "       " ∷ takes 46 "        "
-    ∷ takes 53 "A|Z" ∷ refuses 53 "@|[|a|z|0|9|!|-" ∷ wrong 10 53 53 " "
+    ∷ takes 53 "A|Z" ∷ refuses 53 "^@|^[|^a|^z|^0|^9|^!|^-" ∷ wrong 10 53 53 " "
     ∷ spacer 54 2 ∷ lettersOrSpace 56 1 ∷ anyText 57 24 ∷ [])
     ≡ []
 unfolding edges
@@ -268,11 +282,11 @@ edges-86-missing = refl
 pub edges-27 :
     edges "      *27*00012402011315                               01543" (
     stations ++ (
-    takes 15 "000000|999999|     0|    12|241332" ∷ refuses 15 "      |1     |24020 |24 201|-40201|+40201|24020/|24020:|/40201|:40201|24020A"
-    ∷ takes 21 "0000|9999|   0|  12|2460" ∷ refuses 21 "    |1   |131 |1 15|-315|+315|131/|131:|/315|:315|131A"
+    takes 15 "000000|999999|     0|    12|241332" ∷ refuses 15 "     ^ |1^     |24020^ |24^ 201|^-40201|^+40201|24020^/|24020^:|^/40201|^:40201|24020^A"
+    ∷ takes 21 "0000|9999|   0|  12|2460" ∷ refuses 21 "   ^ |1^   |131^ |1^ 15|^-315|^+315|131^/|131^:|^/315|^:315|131^A"
     ∷ spacer 25 31
     ∷ takes 56 "00000|99999|-9999|-0000|-0001|    0|   -1|  -12| 1543"
-    ∷ refuses 56 "     |    -|-    |1    |0154 |12 34|- 123|--123|+0012|1-234|0154/|0154:|/1543|:1543|0154A|12.34"
+    ∷ refuses 56 "    ^ |    ^-|-^    |1^    |0154^ |12^ 34|-^ 123|-^-123|^+0012|1^-234|0154^/|0154^:|^/1543|^:1543|0154^A|12^.34"
     ∷ spacer 61 20 ∷ []))
     ≡ []
 unfolding edges

@@ -71,7 +71,7 @@ phase-1 = refl
 not-1 : (n : ℕ) → stage n ≤ 5 → n =? 1 ≡ false
 not-1 n h = is-no (n =? 1) (λ e. omega (arith, at-1 n (to≡ e)))
 
-early : (n : ℕ) → stage n ≤ 4 → phase n ≡ 1
+pub early : (n : ℕ) → stage n ≤ 4 → phase n ≡ 1
 unfolding phase
 early n h = rw (not-1 n (omega arith), of≤ h)
 
@@ -105,7 +105,7 @@ unfolding FirstOf Precedes
 first-end true r = λ n k c x. true≢false (x .0)
 first-end false r = ((refl, refl, refl, refl), λ n k c x. inr (ap phase (sym (x .1)), inr (sym (x .2), by-number 8 1 n c (x .1) (x .3))))
 
-late-phase : (ks : List Check) → allLate ks ≡ true → (n c : ℕ) → Some CheckFaults ks n c → phase n ≡ 2
+pub late-phase : (ks : List Check) → allLate ks ≡ true → (n c : ℕ) → Some CheckFaults ks n c → phase n ≡ 2
 unfolding allLate Some
 late-phase [] h n c x = absurd x
 late-phase (k ∷ ks) h n c (inl x) = ap phase (x .1) ∙ to≡ (both h .0)

@@ -13,7 +13,7 @@ use Rattle.rules.specs.Characters.{isBlank, isDigit}
 use Rattle.rules.specs.Digits.{val}
 use Rattle.rules.specs.Items.{Value, missing, num, number, height, numForm, heightForm, minus, signed, valueOf, fits, onNumber, width, shape, good}
 use Rattle.rules.specs.Forms.{NumberField, HeightField}
-use Rattle.rules.proofs.Truth.{both, and, to≤, of≤, no≤, to≡, of≡, of-within, to-within, cases, all-weaken, is-no}
+use Rattle.rules.proofs.Truth.{both, and, to≤, of≤, no≤, to≡, of≡, of-within, to-within, cases, all-weaken, is-no, not-both}
 use Rattle.rules.proofs.SetLaws.{digits-in, digits-of}
 use Rattle.rules.proofs.DigitLaws.{notAbove9, val-lt}
 use Rattle.rules.proofs.Lawful.{digits-not-blank, blanks, blanks-numForm, digits-numForm, blanks-heightForm, digits-heightForm, digits-no-minus}
@@ -94,7 +94,7 @@ behind-blanks : (w k : ℕ) (ds : List ℕ) → length (replicate k 32 ++ ds) �
 behind-blanks w k ds e = omega (arith, length-append (replicate k 32) ds)
 
 module _ (w lo hi : ℕ) (may : Bool) where
-  value-blank : (bs : List ℕ) → all isBlank bs ≡ true → valueOf (number w lo hi may) bs ≡ missing
+  pub value-blank : (bs : List ℕ) → all isBlank bs ≡ true → valueOf (number w lo hi may) bs ≡ missing
   unfolding valueOf
   value-blank bs h = rw h
 
@@ -103,15 +103,19 @@ module _ (w lo hi : ℕ) (may : Bool) where
   value-digits k ds h s = rw (not-blank-after k ds (digits-not-blank ds h s), val-blanks k ds)
 
   -- the range of a value that is there
-  in-range : (n : ℕ) → fits (number w lo hi may) (num (pos n)) ≡ true → (lo ≤ n) × (n ≤ hi)
+  pub in-range : (n : ℕ) → fits (number w lo hi may) (num (pos n)) ≡ true → (lo ≤ n) × (n ≤ hi)
   unfolding fits onNumber
   in-range n h = to-within (both h .1)
+
+  pub fits-room : (n : ℕ) → fits (number w lo hi may) (num (pos n)) ≡ true → (1 ≤ w) × (n < 10 ^ w)
+  unfolding fits onNumber
+  fits-room n h = (to≤ (both (both h .0) .0), to≤ (both (both h .0) .1))
 
   may-miss : fits (number w lo hi may) missing ≡ true → may ≡ true
   unfolding fits onNumber
   may-miss h = h
 
-  fits-range : (n : ℕ) → 1 ≤ w → n < 10 ^ w → lo ≤ n → n ≤ hi → fits (number w lo hi may) (num (pos n)) ≡ true
+  pub fits-range : (n : ℕ) → 1 ≤ w → n < 10 ^ w → lo ≤ n → n ≤ hi → fits (number w lo hi may) (num (pos n)) ≡ true
   unfolding fits onNumber
   fits-range n p q a b = and (and (of≤ p) (of≤ q)) (of-within a b)
 
@@ -218,7 +222,7 @@ module _ (w : ℕ) (may : Bool) where
         signed-value sign ds h s,
       )
 
-  height-blank : (bs : List ℕ) → all isBlank bs ≡ true → valueOf (height w may) bs ≡ missing
+  pub height-blank : (bs : List ℕ) → all isBlank bs ≡ true → valueOf (height w may) bs ≡ missing
   unfolding valueOf
   height-blank bs h = rw h
 
@@ -281,3 +285,13 @@ module _ (w : ℕ) (may : Bool) where
             (rw e (subst (λ x. fits (height w may) (num x) ≡ true) (sym (i .value)) (height-fits (i .minus) (i .digits) ds (i .some) long))),
         e ∙ sym q,
       )
+
+  -- whatever has the form and is not blank is a height of its own width
+  pub height-formed : (bs : List ℕ) → length bs ≡ w → heightForm bs ≡ true → all isBlank bs ≡ false → good (height w may) bs ≡ true
+  unfolding HeightField
+  height-formed bs size h some =
+      let s = split-height bs h in
+      cases (1 ≤? length (s .digits))
+      (λ k. height-back bs (num (signed (s .sign) (val 0 (s .digits))))
+      (inr (signed (s .sign) (val 0 (s .digits)), size, record { blanks = s .blank; minus = s .sign; digits = s .digits; spelled = s .spelled; decimal = digits-in (s .digits) (s .decimal); some = to≤ k; value = refl }, refl)) .0)
+      (λ k. absurd (not-both (rw (height-only-blanks bs s size k) (blanks w)) some))

@@ -11,8 +11,8 @@ use Rattle.rules.specs.Tests.{all, within, _&_, _≤?_, _=?_}
 use Rattle.rules.specs.Characters.{ascii, isPrintable, isBlank, isDigit, isLetter, anyOf, titleMarks, isTitle, Set, letter, digit, space, printable, title, name, only, _or_, member}
 use Rattle.rules.specs.Digits.{val, put}
 use Rattle.rules.specs.Items.{Value, gap, missing, num, text, label, Way, latitude, longitude, Test, each, orBlank, Item, blank, constant, number, height, angle, month, media, word}
-use Rattle.rules.specs.Items.{numForm, heightForm, minus, signed, passes, angleOf, dms, dmsForm, columns, top, low, plus, minusOf, angleValue, isMonth, isMedia, onGap, onNumber, onText, onLabel, width, shape, valueOf, fits, render, good, angleDigits, spot}
-use Rattle.rules.proofs.Truth.{all-append, all-weaken, all-replicate, of-within, to-within, both, and, to≤, of≤, to≡, of≡, is-no, choice}
+use Rattle.rules.specs.Items.{numForm, heightForm, minus, signed, passes, angleOf, dms, dmsForm, columns, top, low, plus, minusOf, angleValue, isMonth, isMedia, onGap, onNumber, onText, onLabel, width, shape, valueOf, fits, render, good, begins, firstBad, spot}
+use Rattle.rules.proofs.Truth.{all-append, all-weaken, all-replicate, of-within, to-within, both, and, to≤, of≤, to≡, of≡, is-no, cases, choice}
 use Rattle.rules.proofs.DigitLaws.{length-put, digits-put, val-put}
 
 -- ---- all that records and files use of a field
@@ -280,7 +280,7 @@ unfolding angleValue minusOf signed _=?_ _&_
 west latitude n h = rw h
 west longitude n h = rw h
 
-plus-letter : (way : Way) → cond (plus way =? plus way) true (plus way =? minusOf way) ≡ true
+pub plus-letter : (way : Way) → cond (plus way =? plus way) true (plus way =? minusOf way) ≡ true
 unfolding plus _=?_
 plus-letter latitude = refl
 plus-letter longitude = refl
@@ -429,17 +429,11 @@ lawful media = media-lawful
 lawful (word w t) = word-lawful w t
 
 -- the fault is named inside the field
-cond-lt : (b : Bool) (n : ℕ) → cond b n 0 < suc n
-cond-lt true n = omega arith
-cond-lt false n = omega arith
+pub first-bad-most : (i : Item) (bs : List ℕ) (n k : ℕ) → firstBad i bs n k ≤ k + n
+unfolding firstBad
+first-bad-most i bs zero k = omega arith
+first-bad-most i bs (suc n) k = cases (begins i (take (k + 1) bs)) (λ e. rw e (omega (arith, first-bad-most i bs n (k + 1)))) (λ e. rw e (omega arith))
 
 pub spot-inside : (i : Item) (bs : List ℕ) → 1 ≤ width i → spot i bs < width i
-unfolding spot width
-spot-inside (blank w) bs h = omega arith
-spot-inside (constant c) bs h = omega arith
-spot-inside (number w lo hi may) bs h = omega arith
-spot-inside (height w may) bs h = omega arith
-spot-inside (angle way) bs h = cond-lt (angleDigits way (take (columns way) bs)) (columns way)
-spot-inside month bs h = omega arith
-spot-inside media bs h = omega arith
-spot-inside (word w t) bs h = omega arith
+unfolding spot
+spot-inside i bs h = omega (arith, first-bad-most i bs (width i - 1) 0)

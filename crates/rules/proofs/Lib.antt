@@ -5,6 +5,7 @@ pub mod Lawful  -- every kind of field: what is written reads back
 pub mod SetLaws  -- sets of characters are the lists of their members
 pub mod FormLaws  -- numbers and heights are what the paper says
 pub mod SpellLaws  -- and so is every kind of field, and every code
+pub mod BeginningLaws  -- the column that a bad field is refused at
 pub mod FieldLaws  -- fields in a row
 pub mod RecordLaws  -- one record
 pub mod FileLaws  -- a file, and demand 3 for any edition
@@ -14,6 +15,7 @@ pub mod PaddingLaws  -- the padding step: one reading, the first fault, what is 
 pub mod ReferenceLaws  -- references and words
 pub mod TableLaws  -- the table as it is filled, and the counts
 pub mod Chapter4Laws  -- Chapter 4 is sound, and its order is the paper's table
+pub mod PointLaws  -- where what is read is refused with 9
 pub mod Bounds  -- the bounds of a fault's number, record and column
 pub mod Keeping  -- what is kept of the records before
 pub mod AgreeLaws  -- agreement is what the paper says

@@ -43,7 +43,7 @@ unfolding put
 put-val w ds e h = let z : 0 + length ds ≡ w = omega (arith, e) in sym (put-more 0 0 ds h) ∙ ap (λ k. put k (val 0 ds)) z
 
 -- two numbers side by side are one
-put-join : (v w a b : ℕ) → b < 10 ^ w → put (v + w) (a * 10 ^ w + b) ≡ put v a ++ put w b
+pub put-join : (v w a b : ℕ) → b < 10 ^ w → put (v + w) (a * 10 ^ w + b) ≡ put v a ++ put w b
 unfolding put
 put-join v zero a b h =
     let e : v + 0 ≡ v = omega arith in
@@ -62,19 +62,19 @@ put-join v (suc w) a b h =
 
 -- ---- words, blanks and constants
 module _ (i : Item) (bs : List ℕ) where
-  sized : good i bs ≡ true → length bs ≡ width i
+  pub sized : good i bs ≡ true → length bs ≡ width i
   unfolding good
   sized h = to≡ (both (both h .0) .0)
 
-  shaped : good i bs ≡ true → shape i bs ≡ true
+  pub shaped : good i bs ≡ true → shape i bs ≡ true
   unfolding good
   shaped h = both (both h .0) .1
 
-  fitting : good i bs ≡ true → fits i (valueOf i bs) ≡ true
+  pub fitting : good i bs ≡ true → fits i (valueOf i bs) ≡ true
   unfolding good
   fitting h = both h .1
 
-  goodly : length bs ≡ width i → shape i bs ≡ true → {v : Value} → valueOf i bs ≡ v → fits i v ≡ true → (good i bs ≡ true) × (valueOf i bs ≡ v)
+  pub goodly : length bs ≡ width i → shape i bs ≡ true → {v : Value} → valueOf i bs ≡ v → fits i v ≡ true → (good i bs ≡ true) × (valueOf i bs ≡ v)
   unfolding good
   goodly a b e c = (and (and (of≡ a) b) (rw e c), e)
 
@@ -258,6 +258,12 @@ module _ (way : Way) where
   most-fits (suc n) true f h = of≤ (f refl)
   most-fits m false f h = of≤ h
 
+  pub angle-most : (bs : List ℕ) → good (angle way) bs ≡ true → angleOf (val 0 (take (columns way) bs)) ≤ top way
+  unfolding valueOf angleValue
+  angle-most bs h =
+      let n = val 0 (take (columns way) bs) in
+      fits-most (angleOf n) (getD bs (columns way) 0 =? minusOf way & angleOf n ≤? low way) (λ e. to≤ (both e .1)) (fitting (angle way) bs h)
+
   pub angle-forth : (bs : List ℕ) → good (angle way) bs ≡ true → AngleField way bs (valueOf (angle way) bs)
   unfolding shape width valueOf dmsForm angleOf angleValue
   angle-forth bs h =
@@ -286,7 +292,7 @@ module _ (way : Way) where
           five = omega arith;
           value = omega arith;
         };
-        most = fits-most (angleOf n) (l =? minusOf way & angleOf n ≤? low way) (λ e. to≤ (both e .1)) (fitting (angle way) bs h);
+        most = angle-most bs h;
         signed = angleValue way (angleOf n) l;
         sided = letter-side (angleOf n) l (both form .1);
         value = refl;

@@ -5,7 +5,7 @@ use mathlib.Core.Bool.{Bool, true, false, cond, _&&_, _||_, false≢true}
 use mathlib.Core.List.{List, [], _∷_, _++_}
 use Prim.Native.Nat.{ℕ, zero, suc, _≤_, _<_}
 use native.Mathlib.Omega.{arith}
-use lib.ListN.{length, getD, replicate}
+use lib.ListN.{length, getD, replicate, take, drop, take-append-drop}
 use borrow.Author.Tests.{leb-true, leb-false, le-leb, lt-leb, eqb-true, eq-eqb, ne-eqb}
 use Rattle.rules.specs.Tests.{_&_, _≤?_, _=?_, within, all}
 use Rattle.rules.specs.Members.{_∈_}
@@ -107,6 +107,12 @@ module _ {A : Type 0} where
   unfolding all
   all-parts p [] ys h = (refl, h)
   all-parts p (x ∷ xs) ys h = let t = all-parts p xs ys (both h .1) in (and (both h .0) (t .0), t .1)
+
+  pub all-take : (p : A → Bool) (n : ℕ) (xs : List A) → all p xs ≡ true → all p (take n xs) ≡ true
+  all-take p n xs h = all-parts p (take n xs) (drop n xs) (rw take-append-drop h) .0
+
+  pub all-drop : (p : A → Bool) (n : ℕ) (xs : List A) → all p xs ≡ true → all p (drop n xs) ≡ true
+  all-drop p n xs h = all-parts p (take n xs) (drop n xs) (rw take-append-drop h) .1
 
   pub all-weaken : (p q : A → Bool) → ((x : A) → p x ≡ true → q x ≡ true) → (xs : List A) → all p xs ≡ true → all q xs ≡ true
   unfolding all

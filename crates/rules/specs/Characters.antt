@@ -56,3 +56,14 @@ member title b = isTitle b
 member name b = isTitle b & not (b =? 92)
 member (only c) b = isPrintable b & b =? c
 member (s or t) b = cond (member s b) true (member t b)
+
+-- a character of a set, if it has any
+unfoldable pub oneOf : Set → ℕ
+oneOf letter = 65
+oneOf digit = 48
+oneOf space = 32
+oneOf printable = 65
+oneOf title = 65
+oneOf name = 65
+oneOf (only c) = c
+oneOf (s or t) = cond (member s (oneOf s)) (oneOf s) (oneOf t)

@@ -1,11 +1,11 @@
 -- 01, "How a field is read": what can stand in a field, its value, and how the value is written.
 use mathlib.Core.Bool.{Bool, true, false, cond}
 use mathlib.Core.List.{List, [], _∷_, _++_}
-use Prim.Native.Nat.{ℕ, suc, _+_, _-_, _*_, _/_, _%_, _^_}
+use Prim.Native.Nat.{ℕ, zero, suc, _+_, _-_, _*_, _/_, _%_, _^_}
 use lib.ListN.{length, replicate, take, drop, getD}
 use lib.IntN.{ℤ, pos, negsuc, negℤ}
 use Rattle.rules.specs.Tests.{_&_, _≤?_, _=?_, within, all}
-use Rattle.rules.specs.Characters.{isPrintable, isBlank, isDigit, isLetter, Set, letter, digit, _or_, member}
+use Rattle.rules.specs.Characters.{isPrintable, isBlank, isDigit, isLetter, Set, letter, digit, _or_, member, oneOf}
 use Rattle.rules.specs.Digits.{val, put}
 
 -- what a field says
@@ -22,6 +22,11 @@ pub data Way : Type 0 where
 -- 01, "Letters, letters and digits, printable", "Digit pair": each column of a set; or all columns blank
 pub data Test : Type 0 where
   each orBlank : Set → Test
+
+-- whose characters they are
+unfoldable pub setIn : Test → Set
+setIn (each s) = s
+setIn (orBlank s) = s
 
 -- the kinds of field
 pub data Item : Type 0 where
@@ -211,17 +216,36 @@ parts month = 6 ∷ []
 parts media = 10 ∷ []
 parts (word w t) = w ∷ []
 
--- an angle's digits by themselves
-unfoldable pub angleDigits : Way → List ℕ → Bool
-angleDigits way ds = all isDigit ds & dmsForm (val 0 ds) & angleOf (val 0 ds) ≤? top way
+-- ---- 02, T-02: "the first column at which no acceptable field begins with the characters up to there"; Beginnings says it without a test
+-- a value of the kind, the least where values are numbers
+unfoldable pub least : Item → Value
+least (blank w) = gap
+least (constant c) = gap
+least (number w lo hi may) = num (pos lo)
+least (height w may) = num (pos 0)
+least (angle way) = num (pos 0)
+least month = num (pos 101)
+least media = label 65 1 0 48 (replicate 4 32)
+least (word w t) = text (replicate w (oneOf (setIn t)))
 
--- where in a bad item the fault is named: at the first column of the field, which is the letter's where the angle's digits are good
+-- the ends that a beginning is tried with: whatever begins a good field begins one with such an end
+unfoldable pub ends : Item → List (List ℕ)
+ends i = render i (least i) ∷ replicate (width i) 48 ∷ replicate (width i) 32 ∷ []
+
+-- with the rest of one of these behind it, it is good
+unfoldable pub goesOn : Item → List ℕ → List (List ℕ) → Bool
+goesOn i p [] = false
+goesOn i p (e ∷ es) = let rest = goesOn i p es in cond (good i (p ++ drop (length p) e)) true rest
+
+-- these characters begin a good field
+unfoldable pub begins : Item → List ℕ → Bool
+begins i p = goesOn i p (ends i)
+
+-- the first of n columns, from k on, up to which the characters begin no good field; the next one where there is none
+unfoldable pub firstBad : Item → List ℕ → (n k : ℕ) → ℕ
+firstBad i bs zero k = k
+firstBad i bs (suc n) k = let rest = firstBad i bs n (k + 1) in cond (begins i (take (k + 1) bs)) rest k
+
+-- where in a bad field the fault is named: the first such column; it is the last one of the field if none before it is
 unfoldable pub spot : Item → List ℕ → ℕ
-spot (blank w) bs = 0
-spot (constant c) bs = 0
-spot (number w lo hi may) bs = 0
-spot (height w may) bs = 0
-spot (angle way) bs = cond (angleDigits way (take (columns way) bs)) (columns way) 0
-spot month bs = 0
-spot media bs = 0
-spot (word w t) bs = 0
+spot i bs = firstBad i bs (width i - 1) 0

@@ -9,6 +9,7 @@ pub mod Kinds  -- the fourteen kinds and their codes
 pub mod Forms  -- fields and codes said without tests
 pub mod Layouts  -- the field tables
 pub mod Records  -- one record: judged, meant, written
+pub mod Beginnings  -- 02, T-02: the column that a bad field is refused at
 pub mod Files  -- the lines of a file, the verdict, the meaning, house style
 pub mod Padding  -- 02, T-01: trimmed lines padded
 pub mod Order  -- what may follow what

@@ -4,7 +4,7 @@ use super::fields::{self, Malformed};
 use super::layout::{
     self, Field, Form, CODED_HEIGHT_WIDTH, FIELDS, JOB, KINDS, MONTH_WIDTH, MOST_LONGITUDE,
 };
-use super::{Fault, COLUMNS, LAST_RECORD, LINE, MISSING};
+use super::{pointing, Fault, COLUMNS, LAST_RECORD, LINE, MISSING};
 
 /// A fault of one record: its number and column.
 pub(super) type At = (u32, usize);
@@ -63,10 +63,7 @@ pub(super) fn judge(
     values: &mut Vec<i64>,
 ) -> Result<Option<u32>, At> {
     values.clear();
-    let sequence = match fields::number(&line[..6]) {
-        Ok(Some(0)) | Err(Malformed) => return Err((9, 1)),
-        Ok(sequence) => sequence,
-    };
+    let sequence = judge_sequence(&line[..6])?;
     if kind == JOB {
         values.extend([i64::from(line[7]), i64::from(line[8])]);
     }
@@ -86,93 +83,101 @@ pub(super) fn judge(
     Ok(sequence)
 }
 
-fn judge_field(line: &[u8], field: &Field, values: &mut Vec<i64>) -> Result<(), At> {
-    let malformed = (9, field.first);
-    let disagrees = (10, field.first);
-    let held = columns(line, field.first, field.width);
-    match field.form {
-        Form::Blank => require(fields::is_blank(held), malformed),
-        Form::Four => require(held == b"4", malformed),
-        Form::Number { least, most } => match fields::number(held) {
-            Ok(Some(value)) if (least..=most).contains(&value) => {
-                values.push(i64::from(value));
-                Ok(())
-            }
-            _ => Err(malformed),
-        },
-        Form::Height { optional } => match fields::height(held) {
-            Ok(Some(value)) => {
-                values.push(i64::from(value));
-                Ok(())
-            }
-            Ok(None) if optional => {
-                values.push(MISSING);
-                Ok(())
-            }
-            _ => Err(malformed),
-        },
-        Form::HeightCode { set, height } => {
-            let blank = held == b" ";
-            require(blank || set.holds(held[0]), malformed)?;
-            require(blank == height_is_missing(line, height), disagrees)?;
-            push_characters(held, values);
-            Ok(())
-        }
-        Form::Angle { most } => {
-            values.push(fields::angle(held, most).map_err(|Malformed| malformed)?);
-            Ok(())
-        }
-        Form::AngleLetter { positive, negative } => {
-            if held[0] == negative {
-                // The digits before it gave the last value.
-                let value = values.last_mut().ok_or(malformed)?;
-                if *value != MOST_LONGITUDE {
-                    *value = -*value;
-                }
-                Ok(())
-            } else {
-                require(held[0] == positive, malformed)
-            }
-        }
-        Form::Month | Form::MonthFrom { .. } => {
-            let value = fields::month(held).map_err(|Malformed| malformed)?;
-            if let Form::MonthFrom { from } = field.form {
-                require(!month_is_before(line, field.first, from), disagrees)?;
-            }
-            values.push(i64::from(value));
-            Ok(())
-        }
-        Form::Media => {
-            let (maker, day, year, session) = (held[0], &held[1..4], held[4], held[5]);
-            let day = fields::all_digits(day).map_err(|Malformed| malformed)?;
-            let good = fields::Set::Letter.holds(maker)
-                && (1..=366).contains(&day)
-                && year.is_ascii_digit()
-                && fields::Set::LetterOrDigit.holds(session);
-            require(good, malformed)?;
-            values.push(i64::from(maker));
-            values.push(i64::from(day));
-            values.push(i64::from(year - b'0'));
-            values.push(i64::from(session));
-            // Printable, as the whole line was found to be.
-            push_characters(&held[6..], values);
-            Ok(())
-        }
-        Form::Code(set) => {
-            require(set.holds_all(held), malformed)?;
-            push_characters(held, values);
-            Ok(())
-        }
-        Form::CodeOrBlank(set) => {
-            require(fields::is_blank(held) || set.holds_all(held), malformed)?;
-            push_characters(held, values);
-            Ok(())
-        }
-        Form::Text(set) => require(set.holds_all(held), malformed),
+fn judge_sequence(held: &[u8]) -> Result<Option<u32>, At> {
+    sequence(held).map_err(|Malformed| {
+        let column = pointing::column(1, held, |tried| sequence(tried).is_ok());
+        (9, column)
+    })
+}
+
+/// Blank or a number from 1.
+fn sequence(held: &[u8]) -> Result<Option<u32>, Malformed> {
+    match fields::number(held)? {
+        Some(0) => Err(Malformed),
+        sequence => Ok(sequence),
     }
 }
 
-fn require(good: bool, fault: At) -> Result<(), At> {
+/// By its own kind and range first, then by the fields it goes with.
+fn judge_field(line: &[u8], field: &Field, values: &mut Vec<i64>) -> Result<(), At> {
+    let held = columns(line, field.first, field.width);
+    take(field.form, held, values).map_err(|Malformed| {
+        let mut values = Vec::new();
+        // What it disagrees with has no say in how it could go on.
+        let column = pointing::column(field.first, held, |tried| {
+            values.clear();
+            take(field.form, tried, &mut values).is_ok()
+        });
+        (9, column)
+    })?;
+    let agrees = match field.form {
+        Form::HeightCode { height, .. } => (held == b" ") == height_is_missing(line, height),
+        Form::MonthFrom { from } => !month_is_before(line, field.first, from),
+        _ => true,
+    };
+    require(agrees, (10, field.first))
+}
+
+/// Takes the values of a field that is of its kind and range. Inlined, since
+/// the search for a column asks it too, and a good field is not to be judged
+/// any slower for that.
+#[inline(always)]
+fn take(form: Form, held: &[u8], values: &mut Vec<i64>) -> Result<(), Malformed> {
+    match form {
+        Form::Blank => require(fields::is_blank(held), Malformed)?,
+        Form::Four => require(held == b"4", Malformed)?,
+        Form::Number { least, most } => {
+            let value = fields::number(held)?.ok_or(Malformed)?;
+            require((least..=most).contains(&value), Malformed)?;
+            values.push(i64::from(value));
+        }
+        Form::Height { optional } => {
+            let value = fields::height(held)?;
+            require(optional || value.is_some(), Malformed)?;
+            values.push(value.map_or(MISSING, i64::from));
+        }
+        Form::HeightCode { set, .. } | Form::CodeOrBlank(set) => {
+            require(fields::is_blank(held) || set.holds_all(held), Malformed)?;
+            push_characters(held, values);
+        }
+        Form::Angle { most } => values.push(fields::angle(held, most)?),
+        Form::AngleLetter { positive, negative } => {
+            require(held[0] == positive || held[0] == negative, Malformed)?;
+            // The digits before it gave the last value.
+            match values.last_mut() {
+                Some(value) if held[0] == negative && *value != MOST_LONGITUDE => *value = -*value,
+                _ => (),
+            }
+        }
+        Form::Month | Form::MonthFrom { .. } => values.push(i64::from(fields::month(held)?)),
+        Form::Media => take_media(held, values)?,
+        Form::Code(set) => {
+            require(set.holds_all(held), Malformed)?;
+            push_characters(held, values);
+        }
+        Form::Text(set) => require(set.holds_all(held), Malformed)?,
+    }
+    Ok(())
+}
+
+fn take_media(held: &[u8], values: &mut Vec<i64>) -> Result<(), Malformed> {
+    let (maker, day, year, session) = (held[0], &held[1..4], held[4], held[5]);
+    let day = fields::all_digits(day)?;
+    let good = fields::Set::Letter.holds(maker)
+        && (1..=366).contains(&day)
+        && year.is_ascii_digit()
+        && fields::Set::LetterOrDigit.holds(session);
+    require(good, Malformed)?;
+    values.push(i64::from(maker));
+    values.push(i64::from(day));
+    values.push(i64::from(year - b'0'));
+    values.push(i64::from(session));
+    // Printable, as the whole line was found to be.
+    push_characters(&held[6..], values);
+    Ok(())
+}
+
+fn require<F>(good: bool, fault: F) -> Result<(), F> {
     if good {
         Ok(())
     } else {

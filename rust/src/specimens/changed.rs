@@ -4,8 +4,9 @@ use super::survey::small_with;
 use super::Specimen;
 
 /// Name; fault number, record and column; record, first column and text of
-/// each change; what it is. A fault stands at its field's first column, which
-/// need not be a changed one.
+/// each change; what it is. Fault 9 stands at the first column at which no
+/// acceptable field begins so, 10 and 12 at their field's first: neither need
+/// be a changed one.
 type Row = (
     &'static str,
     (u32, u64, u64),
@@ -66,39 +67,39 @@ const ROWS: &[Row] = &[
     ),
     (
         "fault_09_sequence_number_0",
-        (9, 2, 1),
+        (9, 2, 6),
         &[(2, 1, "000000")],
-        "*10*, sequence number 0: it is blank or 1 to 999999",
+        "*10*, sequence number 0: it is blank or 1 to 999999, and 000001 begins with five zeros",
     ),
     (
         "fault_09_sequence_number_to_the_left",
-        (9, 3, 1),
+        (9, 3, 3),
         &[(3, 1, "30    ")],
-        "*12*, sequence number with blanks behind its digits",
+        "*12*, sequence number with blanks behind its two digits",
     ),
     (
         "fault_09_lower_case_title",
-        (9, 2, 11),
+        (9, 2, 18),
         &[(2, 18, "b")],
-        "*10*, a small letter in the title",
+        "*10*, a small letter in column 18 of the title",
     ),
     (
         "fault_09_month_13",
-        (9, 3, 11),
+        (9, 3, 16),
         &[(3, 11, "202313")],
-        "*12*, begun in month 13",
+        "*12*, begun in month 13: behind a 1 comes 0, 1 or 2",
     ),
     (
         "fault_09_month_blank",
         (9, 3, 17),
         &[(3, 17, "      ")],
-        "*12*, end of the field work missing",
+        "*12*, end of the field work missing: no month begins with a blank",
     ),
     (
         "fault_09_backslash_in_name",
-        (9, 3, 26),
+        (9, 3, 30),
         &[(3, 30, "\\")],
-        "*12*, a backslash, which only the titles may have",
+        "*12*, a backslash in column 30, which only the titles may have",
     ),
     (
         "fault_09_survey_method",
@@ -108,51 +109,51 @@ const ROWS: &[Row] = &[
     ),
     (
         "fault_09_station_0",
-        (9, 4, 11),
+        (9, 4, 14),
         &[(4, 11, "0000")],
-        "*25*, station 0: they start at 1",
+        "*25*, station 0: they start at 1, and 0001 begins with three zeros",
     ),
     (
         "fault_09_day_367",
-        (9, 4, 15),
+        (9, 4, 18),
         &[(4, 15, "T3673A0012")],
-        "*25*, media identifier of day 367",
+        "*25*, media identifier of day 367: the last is 366",
     ),
     (
         "fault_09_spacer_filled",
-        (9, 4, 31),
+        (9, 4, 32),
         &[(4, 32, "x")],
-        "*25*, a letter in the blank columns 31-32",
+        "*25*, a letter in the second of the blank columns 31-32",
     ),
     (
         "fault_09_antenna_height_blank",
-        (9, 5, 56),
+        (9, 5, 60),
         &[(5, 56, "     ")],
-        "*27*, height missing: only those of an *86* may be",
+        "*27*, height missing: only those of an *86* may be; blanks begin a height, and its last column is a digit",
     ),
     (
         "fault_09_equipment_code_0",
-        (9, 7, 14),
+        (9, 7, 16),
         &[(7, 14, "000")],
-        "*70*, equipment code 0",
+        "*70*, equipment code 0: they start at 1, and 001 begins with two zeros",
     ),
     (
         "fault_09_radome_with_digit",
-        (9, 9, 33),
+        (9, 9, 34),
         &[(9, 33, "N0NE")],
         "*72*, a digit among the letters of the radome",
     ),
     (
         "fault_09_latitude_past_the_pole",
-        (9, 11, 45),
+        (9, 11, 55),
         &[(11, 45, "90000000001")],
-        "*80*, latitude above 90 degrees",
+        "*80*, latitude above 90 degrees by its last decimal",
     ),
     (
         "fault_09_latitude_with_blank",
         (9, 11, 45),
         &[(11, 45, " 1434512345")],
-        "*80*, a blank among the digits of the latitude",
+        "*80*, a blank in place of the first digit of the latitude",
     ),
     (
         "fault_09_letter_of_latitude",
@@ -162,33 +163,33 @@ const ROWS: &[Row] = &[
     ),
     (
         "fault_09_sixty_seconds",
-        (9, 11, 57),
+        (9, 11, 62),
         &[(11, 57, "123016000000")],
-        "*80*, longitude with 60 whole seconds",
+        "*80*, longitude with 60 whole seconds: they begin with 0 to 5",
     ),
     (
         "fault_09_longitude_past_the_half_turn",
-        (9, 11, 57),
+        (9, 11, 68),
         &[(11, 57, "180000000001")],
-        "*80*, longitude above 180 degrees",
+        "*80*, longitude above 180 degrees by its last decimal",
     ),
     (
         "fault_09_state_with_digit",
-        (9, 11, 77),
+        (9, 11, 78),
         &[(11, 77, "R1")],
         "*80*, a digit among the letters of the country",
     ),
     (
         "fault_09_height_with_blank_inside",
-        (9, 12, 17),
+        (9, 12, 19),
         &[(12, 17, "12 3456")],
         "*86*, a blank among the digits of the orthometric height",
     ),
     (
         "fault_09_half_a_digit_pair",
-        (9, 12, 25),
+        (9, 12, 26),
         &[(12, 25, "2 ")],
-        "*86*, a digit and a blank: both are digits or both blank",
+        "*86*, a digit and a blank: both are digits or both blank, and a digit may come first",
     ),
     (
         "fault_09_indicator",
@@ -198,9 +199,9 @@ const ROWS: &[Row] = &[
     ),
     (
         "fault_09_height_of_a_minus_only",
-        (9, 12, 36),
+        (9, 12, 42),
         &[(12, 36, "      -")],
-        "*86*, geoid height with no digit",
+        "*86*, geoid height with no digit: its last column is one",
     ),
     (
         "fault_09_ellipsoid_code_digit",
@@ -210,7 +211,7 @@ const ROWS: &[Row] = &[
     ),
     (
         "fault_09_before_10_further_right",
-        (9, 12, 17),
+        (9, 12, 19),
         &[(12, 17, "12.3456"), (12, 24, " ")],
         "*86* with a malformed orthometric height and no code for it: fields are judged from the left",
     ),
@@ -330,8 +331,8 @@ const ROWS: &[Row] = &[
     ),
     (
         "slip_undefined_station_then_malformed",
-        (9, 12, 15),
+        (9, 12, 16),
         &[(4, 11, "0013"), (5, 11, "0013"), (6, 11, "0013"), (12, 16, "x")],
-        "an undefined station in record 4, and a letter in the blank columns 15-16 of the *86*: the malformed record is named",
+        "an undefined station in record 4, and a letter in the second of the blank columns 15-16 of the *86*: the malformed record is named",
     ),
 ];

@@ -182,8 +182,8 @@ fn trimmed() -> Vec<Input> {
     vec![Input::good(
         "padding_trimmed_month_13",
         3,
-        (9, 3, 11),
-        "three trimmed lines, ended by CR LF, by LF and by the input's end; the *12* is begun in month 13: what check refuses stays refused",
+        (9, 3, 16),
+        "three trimmed lines, ended by CR LF, by LF and by the input's end; the *12* is begun in month 13, which its last digit tells: what check refuses stays refused",
         bytes
             .flat_map(|(line, end)| [without_blanks(line), end].concat())
             .collect(),

@@ -2,8 +2,9 @@
 
 use crate::files::{self, Family};
 use crate::least;
+use crate::pointing::every_column_was_named;
 use crate::sides::Sides;
-use shelf::plain::layout::{Form, FIELDS, POINT};
+use shelf::plain::layout::{FIELDS, POINT};
 
 fn checked(family: Family, least: u64) -> Sides {
     Sides::over(family, least, |sides, file, _| sides.check(file))
@@ -12,26 +13,11 @@ fn checked(family: Family, least: u64) -> Sides {
 #[test]
 fn every_byte() {
     let sides = checked(files::every_byte, least::EVERY_BYTE);
-    every_field_was_refused(&sides);
+    every_column_was_named(&sides);
     for kind in 0..FIELDS.len() {
         // A bad byte in columns 7-10 leaves a record without a kind.
         for column in (1..=6).chain(11..=80) {
             assert!(sides.faults_at(4, kind, column) > 0);
-        }
-    }
-}
-
-/// Each field that can be malformed was, at its own column, for each kind.
-fn every_field_was_refused(sides: &Sides) {
-    for (kind, fields) in FIELDS.iter().enumerate() {
-        assert!(sides.faults_at(9, kind, 1) > 0);
-        for field in fields.iter() {
-            let takes_all = match field.form {
-                Form::Text(set) => (0x20..=0x7e).all(|byte| set.holds(byte)),
-                _ => false,
-            };
-            let refused = sides.faults_at(9, kind, field.first) > 0;
-            assert_ne!(refused, takes_all, "kind {kind} column {}", field.first);
         }
     }
 }
@@ -46,7 +32,7 @@ fn filled() {
 fn angles() {
     let sides = checked(files::angles, least::ANGLES);
     assert!(sides.faults(0) > 100);
-    for column in [45, 56, 57, 69] {
+    for column in 45..=69 {
         assert!(sides.faults_at(9, POINT, column) > 100);
     }
 }

@@ -10,6 +10,7 @@ mod inputs;
 mod lent;
 mod limits;
 mod pad;
+mod pointing;
 mod read;
 mod rewrite;
 mod sides;
@@ -26,6 +27,8 @@ mod least {
     pub const CUT: u64 = 10_000;
     pub const ORDER: u64 = 15_000;
     pub const READ_RECORDS: u64 = 300_000;
+    pub const CHARACTERS: u64 = 10 * 80 * 95;
+    pub const BEGINNINGS: u64 = 290_000;
     pub const FIELDS: u64 = 1_000_000;
     pub const WRITE_WORDS: u64 = 100_000;
     pub const WRITE_TEXTS: u64 = 220_000;
@@ -42,6 +45,9 @@ mod least {
     /// Check, rewrite and read each try these families.
     const ALL: u64 = 3 * (EVERY_BYTE + FILLED + ANGLES + TWO_BYTES + DAMAGED + CUT + ORDER)
         + READ_RECORDS
+        + 2 * CHARACTERS
+        + BEGINNINGS
+        + BEGINNINGS / 5
         + FIELDS
         + WRITE_WORDS
         + WRITE_TEXTS

@@ -29,7 +29,7 @@ fn check_and_rewrite() {
 fn read_and_field() {
     let file = sample::with(&sample::file(), 7, 56, "1.543");
     let refused = library::read(&file, 7).unwrap_err();
-    assert_eq!((refused.number, refused.record, refused.column), (9, 7, 56));
+    assert_eq!((refused.number, refused.record, refused.column), (9, 7, 57));
     assert_eq!(library::field(&file, 7, 11), b"");
     assert_eq!(library::field(&file, 5, 15), b"T3669Aab~ ");
     for number in (1..=24).filter(|&number| number != 7) {

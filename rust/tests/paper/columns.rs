@@ -62,7 +62,7 @@ fn p3_ninety_degrees_are_good() {
 
 #[test]
 fn p4_above_ninety_degrees_is_fault_9() {
-    assert_eq!(refused(POINT, 45, "90000000001N"), (9, 17, 45));
+    assert_eq!(refused(POINT, 45, "90000000001N"), (9, 17, 55));
 }
 
 #[test]
@@ -75,7 +75,7 @@ fn p5_180_west_is_180_east() {
         longitude("180000000000E"),
         (64_800_000_000, "180000000000E".into())
     );
-    assert_eq!(refused(POINT, 57, "180000000001E"), (9, 17, 57));
+    assert_eq!(refused(POINT, 57, "180000000001E"), (9, 17, 68));
     assert_eq!(
         longitude("179595999999W"),
         (-64_799_999_999, "179595999999W".into())
@@ -107,12 +107,12 @@ fn p9_the_ends_of_a_height() {
 
 #[test]
 fn p10_a_blank_inside_a_height_is_fault_9() {
-    assert_eq!(refused(HEIGHTS, 17, "12 3456"), (9, 18, 17));
-    assert_eq!(refused(HEIGHTS, 17, "      -"), (9, 18, 17));
-    assert_eq!(refused(HEIGHTS, 17, "- 12345"), (9, 18, 17));
-    assert_eq!(refused(HEIGHTS, 17, "--12345"), (9, 18, 17));
+    assert_eq!(refused(HEIGHTS, 17, "12 3456"), (9, 18, 19));
+    assert_eq!(refused(HEIGHTS, 17, "      -"), (9, 18, 23));
+    assert_eq!(refused(HEIGHTS, 17, "- 12345"), (9, 18, 18));
+    assert_eq!(refused(HEIGHTS, 17, "--12345"), (9, 18, 18));
     assert_eq!(refused(HEIGHTS, 17, "+012345"), (9, 18, 17));
-    assert_eq!(refused(HEIGHTS, 17, "12345  "), (9, 18, 17));
+    assert_eq!(refused(HEIGHTS, 17, "12345  "), (9, 18, 22));
 }
 
 #[test]
@@ -125,7 +125,7 @@ fn p11_a_padded_station_is_written_zero_filled() {
 
 #[test]
 fn p12_station_zero_is_fault_9() {
-    assert_eq!(refused(5, 11, "0000"), (9, 5, 11));
+    assert_eq!(refused(5, 11, "0000"), (9, 5, 14));
 }
 
 #[test]

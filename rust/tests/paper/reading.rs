@@ -133,7 +133,7 @@ fn read_judges_a_record_by_itself() {
     assert_eq!(read(&bad, 1), Err(fault(5, 1, 81)));
     assert_eq!(read(&bad, 2).unwrap().kind, 1);
     assert_eq!(read(&with(&file, 2, 7, "*13*"), 2), Err(fault(6, 2, 7)));
-    assert_eq!(read(&with(&file, 2, 1, "000000"), 2), Err(fault(9, 2, 1)));
+    assert_eq!(read(&with(&file, 2, 1, "000000"), 2), Err(fault(9, 2, 6)));
     // Disagreement inside a record is judged, between records it is not.
     assert_eq!(
         read(&with(&file, 4, 17, "201910"), 4),

@@ -27,10 +27,10 @@ fn a_refused_file_with_a_caret_under_the_column() {
     let ran = desk.run(&["check", "bad.b"]).ended(1);
     let record = "      *25*  12T3669Aab~ J B7    003".to_string() + &" ".repeat(45);
     let expected = format!(
-        "bad.b: refused, fault 9, record 5, column 28\n    \
+        "bad.b: refused, fault 9, record 5, column 29\n    \
          a field not of its kind or range: instrument in columns 28-30 must be a number from 1 \
-         to 999, blanks only in front\n    {record}\n    {}^\n",
-        " ".repeat(27)
+         to 999, blanks only in front; column 29 could have held a digit\n    {record}\n    {}^\n",
+        " ".repeat(28)
     );
     assert_eq!(ran.out, expected);
 }
@@ -94,7 +94,7 @@ fn every_fault_in_words() {
         (
             sample::with(&good, 9, 1, "00000x"),
             "sequence number in columns 1-6 must be a number from 1 to 999999",
-            Some(1),
+            Some(6),
         ),
         (
             sample::with(&good, 7, 11, "0345"),

@@ -10,6 +10,7 @@ mod ledgers;
 mod moving;
 mod pad;
 mod places;
+mod pointing;
 mod rewrite;
 mod scripts;
 mod sheet;

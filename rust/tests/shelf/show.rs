@@ -79,7 +79,7 @@ fn records_that_are_not_there_or_not_good() {
             .contains("there is no such record\n    the file has 24 whole records"));
     }
     let ran = desk.run(&["show", "bad.b", "7"]).ended(1);
-    assert!(ran.out.contains("fault 9, record 7, column 56"));
+    assert!(ran.out.contains("fault 9, record 7, column 57"));
     assert!(ran
         .out
         .contains("antenna height in columns 56-60 must be a height"));

@@ -24,6 +24,8 @@ pub const KIND_NAMES: [&str; 14] = [
 /// How a field's words are shown, and what may stand in it.
 #[derive(Clone, Copy, Debug, PartialEq, Eq)]
 pub enum Form {
+    /// Columns 1-6, which a reading gives apart from its words.
+    Sequence,
     Number {
         least: u32,
         most: u32,
@@ -73,7 +75,7 @@ impl Field {
         match self.form {
             Form::Media => 8,
             Form::Code(_) => self.width(),
-            Form::Letter(_) | Form::Text(_) | Form::Four | Form::Blank => 0,
+            Form::Sequence | Form::Letter(_) | Form::Text(_) | Form::Four | Form::Blank => 0,
             _ => 1,
         }
     }
@@ -84,6 +86,7 @@ impl Field {
             Form::Number { least, most } => {
                 return format!("a number from {least} to {most}, blanks only in front");
             }
+            Form::Sequence => "a number from 1 to 999999, blanks only in front; or all blank",
             Form::Code(what) | Form::Text(what) | Form::Letter(what) => what,
             Form::Date => "a number YYMMDD, blanks only in front",
             Form::Time => "a number HHMM, blanks only in front",
@@ -148,6 +151,7 @@ const fn equipment(first: u32, name: &'static str) -> Field {
     row(first, first + 2, name, form)
 }
 
+const SEQUENCE: Field = row(1, 6, "sequence number", Form::Sequence);
 const TITLE: Field = row(
     11,
     80,
@@ -251,18 +255,10 @@ pub fn fields(kind: usize) -> &'static [Field] {
     FIELDS[kind]
 }
 
-/// The field that starts in a column, columns 1-6 too.
-pub fn starting_at(kind: usize, column: u32) -> Option<Field> {
-    if column == 1 {
-        let form = Form::Number {
-            least: 1,
-            most: 999_999,
-        };
-        return Some(row(1, 6, "sequence number", form));
-    }
-    FIELDS[kind]
-        .iter()
-        .find(|field| field.first == column)
+/// The field that holds a column, columns 1-6 too.
+pub fn holding(kind: usize, column: u32) -> Option<Field> {
+    let mut all = [SEQUENCE].iter().chain(FIELDS[kind]);
+    all.find(|field| (field.first..=field.last).contains(&column))
         .copied()
 }
 

@@ -6,6 +6,7 @@
 
 mod arguments;
 mod check;
+mod could;
 mod deposit;
 mod disk;
 mod drafts;

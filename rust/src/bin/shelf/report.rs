@@ -1,8 +1,8 @@
 //! Verdicts in words, with the record and a caret under the column.
 
 use crate::deposit::{Deposit, Padding, Refusal};
-use crate::fields::{self, KIND_NAMES};
-use crate::names;
+use crate::fields::{self, Field, KIND_NAMES};
+use crate::{could, names};
 use shelf::library::{Fault, KINDS, LINE};
 use std::io::{self, Write};
 use std::path::Path;
@@ -163,14 +163,24 @@ fn code_of(line: &[u8]) -> String {
 }
 
 fn of_field(line: &[u8], fault: Fault) -> Option<String> {
-    let field = fields::starting_at(fields::kind_of(line)?, fault.column)?;
+    let field = fields::holding(fields::kind_of(line)?, fault.column)?;
     let state = match fault.number {
-        9 => format!("must be {}", field.expected()),
+        9 => must_be(line, &field, fault.column),
         10 => format!("must be {}", field.agrees),
         _ => "is defined by no record of this file".to_string(),
     };
     let columns = columns(field.first, field.last);
     Some(format!("{} in {columns} {state}", field.name))
+}
+
+/// What a bad field must be, and what the column that is named could have
+/// held. It is named in the words too: a caret under a blank is hard to count.
+fn must_be(line: &[u8], field: &Field, column: u32) -> String {
+    let expected = field.expected();
+    match could::have_held(line, field, column) {
+        Some(could) => format!("must be {expected}; column {column} could have held {could}"),
+        None => format!("must be {expected}"),
+    }
 }
 
 /// "column 24" or "columns 11-14".

@@ -30,6 +30,7 @@ judge-fields-spec =
     (c .before .start-at2 .result) (c .before .start-at2 .ensures) (c .wide2 .result) (c .wide2 .ensures))
     (λ c κs. (search needs, below (c .before .loop .inv) (c .loop-test .taken)))
     (λ c. search needs)
+    (λ c κs. let t = c .before .before .before .before in (search needs, below (t .before .loop .inv) (t .loop-test .taken)))
     (λ c. search (walk-stop, needs))
     (λ c. search needs)
     (λ c. search needs)

@@ -1,8 +1,7 @@
 -- The part as the code cuts it is the field's columns; then 9 before 10.
 use borrow.Author.Needs.{needs}
-use native.Mathlib.Omega.{arith}
 use Rattle.kinds.specs.Values.{expectOf}
-use Rattle.judging.proofs.FieldLaws.{cut-sized, spot-small, row-good, row-odd, row-bad}
+use Rattle.judging.proofs.FieldLaws.{cut-sized, row-good, row-odd, row-bad}
 use Rattle.judging.proofs.fields.judge_row.Statement.{statement}
 use Rattle.judging.proofs.fields.judge_row.Tie as tie
 
@@ -17,7 +16,7 @@ judge-row-spec =
     (λ c. search needs)
     (λ c κs. let s = c .before .before in
     let p = s .pre in
-    cut-sized (s .args .line .now) (s .args .first) (s .args .width) (p .0) (p .1) (p .2) (expectOf (s .args .e)) (s .args .item) (s .args .bond) (p .3))
+    cut-sized (s .args .line .now) (s .args .first) (s .args .width) (p .0) (p .1) (p .2) (s .args .item) (p .3))
     (λ c κs. search needs)
     (λ c. let a = c .before in
     let g = a .before .before in
@@ -31,12 +30,8 @@ judge-row-spec =
     let p = s .pre in
     row-odd (s .args .line .now) (s .args .first) (s .args .width) (p .0) (p .1) (p .2) (expectOf (s .args .e)) (s .args .item) (s .args .bond)
     (g .good-item .result) (g .good-item .ensures) (a .before .if1 .taken) (a .agrees-item .result) (a .agrees-item .ensures) (c .if2 .left))
-    (λ c κs. search needs)
-    (λ c. let s = c .before .before .before .before .before in
-    let p = s .pre in
-    omega (arith, spot-small (s .args .line .now) (s .args .first) (s .args .width) (p .0) (p .1) (p .2) (expectOf (s .args .e)) (s .args .item) (s .args .bond) (c .spot-item .result) (c .spot-item .ensures)))
-    (λ c. let g = c .before .before in
+    (λ c. let g = c .before in
     let s = g .before .before .before in
     let p = s .pre in
     row-bad (s .args .line .now) (s .args .first) (s .args .width) (p .0) (p .1) (p .2) (expectOf (s .args .e)) (s .args .item) (s .args .bond)
-    (g .good-item .result) (g .good-item .ensures) (c .before .if1 .left) (c .spot-item .result) (c .spot-item .ensures)))
+    (g .good-item .result) (g .good-item .ensures) (c .if1 .left)))
