@@ -1,10 +1,9 @@
 -- Angles by their rows: minutes and seconds by their tens, whatever the degrees are, and the limit by the first columns with ten behind them.
 use mathlib.Core.Path.{_≡_, refl, sym, ap, _∙_, subst}
 use mathlib.Core.Bool.{Bool, true, _&&_, _||_}
-use mathlib.Core.List.{List, [], _∷_, _++_}
+use mathlib.Core.List.{List, [], _∷_}
 use Prim.Native.Nat.{ℕ, suc, _+_, _-_, _*_, _/_, _%_, _^_, _≤_, _<_}
 use native.Mathlib.Omega.{arith}
-use native.Mathlib.Nat.{mul-assoc, pow-succ'}
 use lib.Dec.{leb, eqb, lit≤}
 use lib.ListN.{length, getD, take, drop, length-drop}
 use lib.Seq.{length-take-le, getD-take, take-take, take-add}
@@ -13,8 +12,8 @@ use Rattle.rules.specs.Tests.{_&_, _≤?_, _=?_, within, all}
 use Rattle.rules.specs.Characters.{isDigit}
 use Rattle.rules.specs.Digits.{val}
 use Rattle.rules.specs.Items.{angle, angleOf, dmsForm, good}
-use Rattle.rules.proofs.Truth.{both, and, of≤, to≡, below-or-equal, either, to-within, both-true}
-use Rattle.rules.proofs.DigitLaws.{notAbove9, val-lt}
+use Rattle.rules.proofs.Truth.{and, of≤, below-or-equal, either, to-within, both-true}
+use Rattle.rules.proofs.DigitLaws.{val-append, val-zeros, notAbove9, val-lt}
 use Rattle.columns.specs.declared.Way.{Way}
 use Rattle.columns.specs.Types.{wayOf}
 use Rattle.columns.specs.Leaves.{limitsOf, digitsUpTo}
@@ -83,19 +82,7 @@ tens-size : (b : ℕ) → isTens b ≡ true → b - 48 ≤ 5
 unfolding isTens
 tens-size b h = omega (arith, to-within h .1)
 
-val-zeros : (a : ℕ) (bs : List ℕ) → all (λ b. b =? 48) bs ≡ true → val a bs ≡ a * 10 ^ length bs
-unfolding val all
-val-zeros a [] h = omega arith
-val-zeros a (b ∷ bs) h =
-    let z : a * 10 + (b - 48) ≡ a * 10 = omega (arith, to≡ (both h .0)) in
-    ap (λ k. val k bs) z ∙ val-zeros (a * 10) bs (both h .1) ∙ mul-assoc a 10 (10 ^ length bs) ∙ ap (λ k. a * k) (sym (pow-succ' 10 (length bs)))
-
 -- ---- a number cut in two
-val-append : (a : ℕ) (xs ys : List ℕ) → val a (xs ++ ys) ≡ val (val a xs) ys
-unfolding val
-val-append a [] ys = refl
-val-append a (x ∷ xs) ys = val-append (a * 10 + (x - 48)) xs ys
-
 val-cut : (n m : ℕ) (bs : List ℕ) → val 0 (take (n + m) bs) ≡ val (val 0 (take n bs)) (take m (drop n bs))
 val-cut n m bs = ap (val 0) (take-add n m bs) ∙ val-append 0 (take n bs) (take m (drop n bs))
 
