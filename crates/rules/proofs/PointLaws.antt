@@ -83,10 +83,10 @@ module _ {S : Type 0} (E : Edition S) (is-sound : Sound E) where
   tail-points e l long known c (inr x) = inr (fields-named e (entries E l) l long 11 (E .layout (codeAt l)) (omega arith) (is-sound .filled (codeAt l) known) 9 c refl (unfold entries in x))
 
   -- where 9 is the first of faults among which are those of bytes and code, the line is whole and its code known
-  reached : (l : List ℕ) (c : ℕ) (R : Faults) → ((n d : ℕ) → ByteFaults l n d → R n d) → ((n d : ℕ) → Fails (E .known (codeAt l)) 6 7 n d → R n d)
+  reached : (l : List ℕ) (R : Faults) → ((n d : ℕ) → ByteFaults l n d → R n d) → ((n d : ℕ) → Fails (E .known (codeAt l)) 6 7 n d → R n d)
       → ((n d : ℕ) → stage n ≤ 3 → R n d → ⊥) → (80 ≤ length l) × (E .known (codeAt l) ≡ true)
   unfolding ByteFaults
-  reached l c R bytes code none = (
+  reached l R bytes code none = (
     cases (81 ≤? length l) (λ e. omega (arith, to≤ e)) (λ e. absurd (none 3 (length l + 1) early-3 (bytes 3 (length l + 1) (inl (omega (arith, no≤ e), refl, refl))))),
     cases (E .known (codeAt l)) (λ e. e) (λ e. absurd (none 6 7 early-6 (code 6 7 (e, refl, refl)))),
   )
@@ -110,7 +110,7 @@ module _ {S : Type 0} (E : Edition S) (is-sound : Sound E) where
   line-named s l c (inr (inl x)) none = absurd (omega (arith, x .1))
   line-named s l c (inr (inr (inl x))) none = absurd (omega (arith, x .1))
   line-named s l c (inr (inr (inr x))) none =
-      let k = reached l c (LineFaults E s l) (λ n d y. inl y) (λ n d y. inr (inl y)) none in
+      let k = reached l (LineFaults E s l) (λ n d y. inl y) (λ n d y. inr (inl y)) none in
       tail-points (E .expects s (codeAt l)) l (k .0) (k .1) c (unfold Tail in x)
 
   read-named : (l : List ℕ) (c : ℕ) → ReadFaults E l 9 c → ((n d : ℕ) → stage n ≤ 3 → ReadFaults E l n d → ⊥) → Points E l c
@@ -118,7 +118,7 @@ module _ {S : Type 0} (E : Edition S) (is-sound : Sound E) where
   read-named l c (inl x) none = absurd (not-bytes l c x)
   read-named l c (inr (inl x)) none = absurd (omega (arith, x .1))
   read-named l c (inr (inr x)) none =
-      let k = reached l c (ReadFaults E l) (λ n d y. inl y) (λ n d y. inr (inl y)) none in tail-points anything l (k .0) (k .1) c (unfold Tail in x)
+      let k = reached l (ReadFaults E l) (λ n d y. inl y) (λ n d y. inr (inl y)) none in tail-points anything l (k .0) (k .1) c (unfold Tail in x)
 
   -- ---- one record, judged in its place and by itself
   pub line-points : (s : S) (l : List ℕ) (c : ℕ) → judgeLine E s l ≡ fault 9 c → Points E l c
