@@ -18,11 +18,10 @@ use Rattle.columns.specs.declared.Way.{Way}
 use Rattle.columns.specs.Types.{setOf, wayOf, mediaValue, fourOf}
 use Rattle.columns.specs.Leaves.{written}
 use Rattle.kinds.specs.declared.tables.Item as code
-use Rattle.kinds.specs.declared.tables.Item.the-variants as I
 use Rattle.kinds.specs.Tables.{itemOf}
 use Rattle.judging.specs.declared.spots.FieldKind.{FieldKind}
 use Rattle.judging.specs.declared.spots.FieldKind.the-variants as K
-use Rattle.judging.specs.Judging.{itemAs, kindIn, spans, sized}
+use Rattle.judging.specs.Judging.{itemAs, KindOf, spans, sized}
 
 -- ---- so many columns hold a field
 module _ (i : Item) (w : ℕ) (h : spans i w ≡ true) where
@@ -246,35 +245,9 @@ module _ (i : Item) (bs : List ℕ) (h : spans i (length bs) ≡ true) where
   bad-last k l e = let z : length bs - 1 - k ≡ 0 = omega arith in sym (ap (λ n. firstBad i bs n k) z) ∙ e
 
 -- ---- the kind that stands there
-pub kind-is : (i : code.Item) (w : ℕ) → itemAs (kindIn i) w ≡ itemOf i w
-kind-is I.Blank w = refl
-kind-is I.Method w = refl
-kind-is I.Station w = refl
-kind-is I.Equipment w = refl
-kind-is I.Date w = refl
-kind-is I.Time w = refl
-kind-is I.Rise w = refl
-kind-is I.Metres w = refl
-kind-is I.Month w = refl
-kind-is I.Media w = refl
-kind-is I.Latitude w = refl
-kind-is I.Longitude w = refl
-kind-is I.Letter w = refl
-kind-is I.LetterOrSpace w = refl
-kind-is I.LetterOrDigitOrSpace w = refl
-kind-is I.YesNoOrSpace w = refl
-kind-is I.Pair w = refl
-kind-is I.Datum w = refl
-kind-is I.Title w = refl
-kind-is I.Name w = refl
-kind-is I.Printable w = refl
-
-module _ (i : code.Item) (bs : List ℕ) {kind : FieldKind} (e : kind ≡ kindIn i) where
-  same-item : itemAs kind (length bs) ≡ itemOf i (length bs)
-  same-item = ap (λ k. itemAs k (length bs)) e ∙ kind-is i (length bs)
-
+module _ (i : code.Item) (bs : List ℕ) (kind : FieldKind) (e : KindOf i kind) where
   pub item-spans : spans (itemOf i (length bs)) (length bs) ≡ true → spans (itemAs kind (length bs)) (length bs) ≡ true
-  item-spans h = rw same-item h
+  item-spans h = rw (e (length bs)) h
 
   pub item-spot : {r : ℕ} → r ≡ spot (itemAs kind (length bs)) bs → r ≡ spot (itemOf i (length bs)) bs
-  item-spot z = z ∙ ap (λ k. spot k bs) same-item
+  item-spot z = z ∙ ap (λ k. spot k bs) (e (length bs))

@@ -1,5 +1,6 @@
 -- The judge of a line's fields as the code goes about it: row by row of the tables, with the columns that a field is compared with at hand.
-use mathlib.Core.Bool.{Bool, true, false, cond}
+use mathlib.Core.Path.{_≡_}
+use mathlib.Core.Bool.{Bool, true, cond}
 use mathlib.Core.List.{List, [], _∷_}
 use Prim.Native.Nat.{ℕ, _+_, _-_}
 use lib.ListN.{length, take, drop, getD}
@@ -8,8 +9,6 @@ use Rattle.rules.specs.Characters.{isBlank, isPrintable}
 use Rattle.rules.specs.Digits.{val}
 use Rattle.rules.specs.Items.{Item, blank, constant, number, height, angle, month, media, word, each, orBlank, width, good, spot}
 use Rattle.rules.specs.Fields.{Expect, Verdict, ok, fault, check, _⨾_, sameTruth, meets}
-use Rattle.columns.specs.declared.Way.{Way}
-use Rattle.columns.specs.declared.Set.{Set}
 use Rattle.columns.specs.Types.{wayOf, setOf}
 use Rattle.kinds.specs.declared.tables.Item as code
 use Rattle.kinds.specs.declared.tables.Bond.{Bond}
@@ -57,29 +56,9 @@ itemAs K.Media w = media
 itemAs (K.Word s) w = word w (each (setOf s))
 itemAs (K.WordOrBlank s) w = word w (orBlank (setOf s))
 
--- the kind of field that stands there
-abbrev pub kindIn : code.Item → FieldKind
-kindIn I.Blank = K.Blank
-kindIn I.Method = K.Constant 52
-kindIn I.Station = K.Number 1 9_999 false
-kindIn I.Equipment = K.Number 1 999 false
-kindIn I.Date = K.Number 0 999_999 false
-kindIn I.Time = K.Number 0 9_999 false
-kindIn I.Rise = K.Height false
-kindIn I.Metres = K.Height true
-kindIn I.Month = K.Month
-kindIn I.Media = K.Media
-kindIn I.Latitude = K.Angle Way.Latitude
-kindIn I.Longitude = K.Angle Way.Longitude
-kindIn I.Letter = K.Word Set.Letter
-kindIn I.LetterOrSpace = K.Word Set.LetterOrSpace
-kindIn I.LetterOrDigitOrSpace = K.Word Set.LetterOrDigitOrSpace
-kindIn I.YesNoOrSpace = K.Word Set.YesNoOrSpace
-kindIn I.Pair = K.WordOrBlank Set.Digit
-kindIn I.Datum = K.WordOrBlank Set.LetterOrDigit
-kindIn I.Title = K.Word Set.Title
-kindIn I.Name = K.Word Set.Name
-kindIn I.Printable = K.Word Set.Printable
+-- the kind of field that stands there, however many columns it has
+abbrev pub KindOf : code.Item → FieldKind → Type 0
+KindOf i kind = (w : ℕ) → itemAs kind w ≡ itemOf i w
 
 -- so many columns hold it: they are as wide, and a line has them
 unfoldable pub spans : Item → ℕ → Bool

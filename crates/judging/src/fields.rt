@@ -35,7 +35,7 @@ ghost use Rattle.rules.specs.Fields.{fault, read, judge, meets, sameTruth};
 ghost use Rattle.rules.specs.Layouts.{layouts, kept};
 ghost use Rattle.kinds.specs.Tables.{itemOf};
 ghost use Rattle.kinds.specs.Values.{judgedOf, expectOf};
-ghost use Rattle.judging.specs.Judging.{part, agreesIn, judgeField, judgeFieldAt, refused, refusedAt, pointed, sized, kindIn, spans};
+ghost use Rattle.judging.specs.Judging.{part, agreesIn, judgeField, judgeFieldAt, refused, refusedAt, pointed, sized, KindOf, spans};
 
 // Of its kind and range.
 fn good_item(item: Item, part: &[u8]) -> bool
@@ -69,7 +69,7 @@ fn good_item(item: Item, part: &[u8]) -> bool
 
 // The kind of field that stands there.
 fn field_kind(item: Item) -> FieldKind
-    ensures { λ r. ⌜ r ≡ kindIn item ⌝ }
+    ensures { λ r. ⌜ KindOf item r ⌝ }
 {
     match item {
         Item::Blank => FieldKind::Blank,

@@ -4,6 +4,7 @@ use mathlib.Core.Logic.{_↔_}
 use mathlib.Core.Bool.{Bool, true, false, cond, false≢true}
 use mathlib.Core.List.{List, [], _∷_, _++_, append-assoc, append-nil}
 use Prim.Native.Nat.{ℕ, zero, suc, _+_, _-_, _*_, _^_, _≤_, _<_}
+use native.Mathlib.Nat.{mul-assoc, pow-le-pow-right}
 use native.Mathlib.Omega.{arith}
 use lib.ListN.{length, length-append, length-drop, replicate, length-replicate, take, drop, getD, take-append-drop, drop-of-length-le}
 use lib.Seq.{take-at, drop-at, getD-at, take-all, take-take, take-append-seam, take-append-add, drop-append-le, length-take-le}
@@ -15,10 +16,10 @@ use Rattle.rules.specs.Items.{missing, num, Way, latitude, longitude, ea
 use Rattle.rules.specs.Items.{setIn, numForm, heightForm, passes, render, angleOf, dms, dmsForm, columns, top, low, plus, angleValue, isMonth, isMedia, onGap, onNumber, onText, onLabel, width, shape, valueOf, fits, good, least, ends, goesOn, begins, firstBad, spot}
 use Rattle.rules.specs.Beginnings.{Begins, Names}
 use Rattle.rules.proofs.Truth.{both, and, to≤, of≤, no≤, to≡, of≡, not-both, to-within, of-within, cases, choice, all-append, all-parts, all-take, all-drop, all-weaken, all-replicate}
-use Rattle.rules.proofs.DigitLaws.{length-put, digits-put, val-put, val-append, val-from, val-zeros, put-zeros, notAbove9, val-lt}
+use Rattle.rules.proofs.DigitLaws.{length-put, digits-put, val-put, val-cut, val-zeros, put-zeros, notAbove9, val-lt}
 use Rattle.rules.proofs.Lawful.{blanks, digits-not-blank, blanks-numForm, digits-numForm, blanks-heightForm, digits-heightForm, degrees, minutes, seconds, east, plus-letter}
 use Rattle.rules.proofs.FormLaws.{digit-low, digits-lt, value-blank, in-range, fits-room, fits-range, height-blank, height-formed}
-use Rattle.rules.proofs.SpellLaws.{sized, shaped, fitting, goodly, put-join, angle-most, spelled-iff}
+use Rattle.rules.proofs.SpellLaws.{sized, shaped, fitting, goodly, put-behind, angle-most, spelled-iff}
 
 -- ---- a beginning with an end behind it
 module _ (i : Item) (p : List ℕ) where
@@ -162,6 +163,13 @@ zero-digit : (b : ℕ) → b =? 48 ≡ true → isDigit b ≡ true
 unfolding isDigit
 zero-digit b e = of-within (omega (arith, to≡ e)) (omega (arith, to≡ e))
 
+-- zeros in the columns that follow
+zeros-behind : (w : ℕ) (p rest : List ℕ) → length (p ++ rest) ≡ w → (length (drop (length p) (replicate {A = ℕ} w 48)) ≡ length rest) × (all (λ b. b =? 48) (drop (length p) (replicate w 48)) ≡ true)
+zeros-behind w p rest e = (
+  length-drop (length p) (replicate w 48) ∙ omega (arith, length-replicate {A = ℕ} w 48, e, length-append p rest),
+  all-drop (λ b. b =? 48) (length p) (replicate w 48) (all-replicate (λ b. b =? 48) 48 (of≡ {m = 48} refl) w),
+)
+
 -- ---- numbers
 module _ (w lo hi : ℕ) (may : Bool) (p rest : List ℕ) (h : good (number w lo hi may) (p ++ rest) ≡ true) where
   abbrev this : Item
@@ -201,7 +209,7 @@ module _ (w lo hi : ℕ) (may : Bool) (p rest : List ℕ) (h : good (number w lo
     shifted = val 0 p * 10 ^ length rest
 
     reads : (ds : List ℕ) → length ds ≡ length rest → val 0 (p ++ ds) ≡ shifted + val 0 ds
-    reads ds e = val-append 0 p ds ∙ val-from (val 0 p) ds ∙ ap (λ k. val 0 p * 10 ^ k + val 0 ds) e
+    reads ds e = val-cut (length rest) p ds e
 
     small : val 0 rest < 10 ^ length rest
     small = omega (arith, val-lt 0 rest (all-parts notAbove9 p rest (number-low (p ++ rest) form) .1))
@@ -211,8 +219,7 @@ module _ (w lo hi : ℕ) (may : Bool) (p rest : List ℕ) (h : good (number w lo
     unfolding width
     zeros-go k =
         let ds : List ℕ = drop (length p) (replicate w 48) in
-        let long : length ds ≡ length rest = length-drop (length p) (replicate w 48) ∙ omega (arith, length-replicate {A = ℕ} w 48, wide) in
-        let zeros : all (λ b. b =? 48) ds ≡ true = all-drop (λ b. b =? 48) (length p) (replicate w 48) (all-replicate (λ b. b =? 48) 48 (of≡ {m = 48} refl) w) in
+        let (long, zeros) = zeros-behind w p rest (length-append p rest ∙ wide) in
         let none : val 0 ds ≡ 0 = val-zeros 0 ds zeros ∙ omega arith in
         let e = reads ds long in
         by-zeros this p (digits-go ds (all-weaken (λ b. b =? 48) isDigit zero-digit ds zeros) long (omega arith) (omega (arith, reads rest refl)))
@@ -226,8 +233,7 @@ module _ (w lo hi : ℕ) (may : Bool) (p rest : List ℕ) (h : good (number w lo
         let low = in-range w lo hi may (val 0 (p ++ rest)) fit in
         let less : b < 10 ^ r = omega (arith, low .0, reads rest refl, small) in
         let whole : lo ≡ shifted + b = omega arith in
-        let spelled : put w lo ≡ put (length p) (val 0 p) ++ put r b = ap₂ put (sym wide) whole ∙ put-join (length p) r (val 0 p) b less in
-        let same : drop (length p) (put w lo) ≡ put r b = ap (drop (length p)) spelled ∙ drop-at (put (length p) (val 0 p)) (put r b) (length p) (length-put _ _) in
+        let same : drop (length p) (put w lo) ≡ put r b = ap₂ (λ n k. drop (length p) (put n k)) (sym wide) whole ∙ put-behind (length p) r (val 0 p) b less in
         let value = reads (put r b) (length-put r b) ∙ ap (λ x. shifted + x) (val-put r b less) in
         by-least this p (rw same (digits-go (put r b) (digits-put r b) (length-put r b) (omega arith) (omega (arith, low .0))))
 
@@ -245,8 +251,8 @@ module _ (w : ℕ) (may : Bool) (p rest : List ℕ) (h : good (height w may) (p 
       let fit : fits (height w may) missing ≡ true = subst (λ v. fits (height w may) v ≡ true) (height-blank w may (p ++ rest) e) (fitting (height w may) _ h) in
       by-blanks (height w may) p (goodly (height w may) _ (ended p rest _ size (length-replicate w 32)) (blanks-heightForm _ none) (height-blank w may _ none) fit .0))
       (λ e. let ds : List ℕ = drop (length p) (replicate w 48) in
-      let long : length ds ≡ length rest = length-drop (length p) (replicate w 48) ∙ omega (arith, length-replicate {A = ℕ} w 48, size, length-append p rest) in
-      let digits : all isDigit ds ≡ true = all-drop isDigit (length p) (replicate w 48) (all-replicate isDigit 48 (zero-digit 48 (of≡ {m = 48} refl)) w) in
+      let (long, zeros) = zeros-behind w p rest size in
+      let digits = all-weaken (λ b. b =? 48) isDigit zero-digit ds zeros in
       by-zeros (height w may) p
       (height-formed w may (p ++ ds) (ended p rest _ size (length-replicate w 48)) (height-on p rest ds (shaped (height w may) _ h) digits long) (still-some p rest ds e digits long)))
 
@@ -264,29 +270,17 @@ val-lower a b [] (y ∷ bs) h k = absurd (false≢true k)
 val-lower a b (x ∷ cs) [] h k = absurd (false≢true k)
 val-lower a b (x ∷ cs) (y ∷ bs) h k = val-lower (a * 10 + (x - 48)) (b * 10 + (y - 48)) cs bs (omega (arith, to≤ (both k .0))) (both k .1)
 
-take-lower : (n : ℕ) (cs bs : List ℕ) → lower cs bs ≡ true → lower (take n cs) (take n bs) ≡ true
+parts-lower : (n : ℕ) (cs bs : List ℕ) → lower cs bs ≡ true → (lower (take n cs) (take n bs) ≡ true) × (lower (drop n cs) (drop n bs) ≡ true)
 unfolding lower
-take-lower zero cs bs h = refl
-take-lower (suc n) [] [] h = refl
-take-lower (suc n) [] (y ∷ bs) h = absurd (false≢true h)
-take-lower (suc n) (x ∷ cs) [] h = absurd (false≢true h)
-take-lower (suc n) (x ∷ cs) (y ∷ bs) h = and (both h .0) (take-lower n cs bs (both h .1))
-
-drop-lower : (n : ℕ) (cs bs : List ℕ) → lower cs bs ≡ true → lower (drop n cs) (drop n bs) ≡ true
-unfolding lower
-drop-lower zero cs bs h = h
-drop-lower (suc n) [] [] h = refl
-drop-lower (suc n) [] (y ∷ bs) h = absurd (false≢true h)
-drop-lower (suc n) (x ∷ cs) [] h = absurd (false≢true h)
-drop-lower (suc n) (x ∷ cs) (y ∷ bs) h = drop-lower n cs bs (both h .1)
+parts-lower zero cs bs h = (refl, h)
+parts-lower (suc n) [] [] h = (refl, refl)
+parts-lower (suc n) [] (y ∷ bs) h = absurd (false≢true h)
+parts-lower (suc n) (x ∷ cs) [] h = absurd (false≢true h)
+parts-lower (suc n) (x ∷ cs) (y ∷ bs) h = let t = parts-lower n cs bs (both h .1) in (and (both h .0) (t .0), t .1)
 
 digit-from : (b : ℕ) → isDigit b ≡ true → 48 ≤ b
 unfolding isDigit
 digit-from b h = to-within h .0
-
-digit-to : (b : ℕ) → isDigit b ≡ true → b ≤ 57
-unfolding isDigit
-digit-to b h = to-within h .1
 
 zeros-lower : (p zs ds : List ℕ) → all (λ b. b =? 48) zs ≡ true → all isDigit ds ≡ true → length zs ≡ length ds → lower (p ++ zs) (p ++ ds) ≡ true
 unfolding lower all
@@ -324,7 +318,7 @@ module _ (n : ℕ) where
     seconds-lt = digits-lt 7 _ (all-drop isDigit 2 (drop n xs) (all-drop isDigit n xs h)) (omega (arith, last-seven))
 
     cut : (k m : ℕ) (ys : List ℕ) → length (drop k ys) ≡ m → val 0 ys ≡ val 0 (take k ys) * 10 ^ m + val 0 (drop k ys)
-    cut k m ys e = ap (val 0) (sym (take-append-drop k ys)) ∙ val-append 0 (take k ys) (drop k ys) ∙ val-from (val 0 (take k ys)) (drop k ys) ∙ ap (λ j. val 0 (take k ys) * 10 ^ j + val 0 (drop k ys)) e
+    cut k m ys e = ap (val 0) (sym (take-append-drop k ys)) ∙ val-cut m (take k ys) (drop k ys) e
 
     parted : val 0 xs ≡ degreesIn xs * 1_000_000_000 + minutesIn xs * 10_000_000 + secondsIn xs
     unfolding degreesIn minutesIn secondsIn
@@ -341,15 +335,15 @@ module _ (n : ℕ) where
   module _ (cs bs : List ℕ) (p : length cs ≡ n + 9) (q : length bs ≡ n + 9) (h : all isDigit cs ≡ true) (k : all isDigit bs ≡ true) (l : lower cs bs ≡ true) where
     fewer-degrees : degreesIn cs ≤ degreesIn bs
     unfolding degreesIn
-    fewer-degrees = val-lower 0 0 _ _ (omega arith) (take-lower n cs bs l)
+    fewer-degrees = val-lower 0 0 _ _ (omega arith) (parts-lower n cs bs l .0)
 
     fewer-minutes : minutesIn cs ≤ minutesIn bs
     unfolding minutesIn
-    fewer-minutes = val-lower 0 0 _ _ (omega arith) (take-lower 2 _ _ (drop-lower n cs bs l))
+    fewer-minutes = val-lower 0 0 _ _ (omega arith) (parts-lower 2 _ _ (parts-lower n cs bs l .1) .0)
 
     fewer-seconds : secondsIn cs ≤ secondsIn bs
     unfolding secondsIn
-    fewer-seconds = val-lower 0 0 _ _ (omega arith) (drop-lower 2 _ _ (drop-lower n cs bs l))
+    fewer-seconds = val-lower 0 0 _ _ (omega arith) (parts-lower 2 _ _ (parts-lower n cs bs l .1) .1)
 
     lower-form : dmsForm (val 0 bs) ≡ true → dmsForm (val 0 cs) ≡ true
     lower-form f =
@@ -417,7 +411,7 @@ module _ (way : Way) (p rest : List ℕ) (h : good (angle way) (p ++ rest) ≡ t
     less : lower (p ++ zerosOn) (p ++ digitsOn) ≡ true
     less = zeros-lower p zerosOn digitsOn zeros (all-parts isDigit p digitsOn (both angle-form .0) .1) (zeros-long ∙ sym digits-long)
 
-    -- at most 90, at most 180 degrees, cs it was
+    -- at most 90, at most 180 degrees, as it was
     most : angleOf (val 0 (p ++ zerosOn)) ≤ top way
     most = omega (arith, lower-size (cols - 9) (p ++ zerosOn) (p ++ digitsOn) zeros-wide digits-wide digits-held (both angle-form .0) less, angle-most way (p ++ rest) h, ap (λ (x : List ℕ). angleOf (val 0 x)) front)
 
@@ -453,65 +447,59 @@ module _ (way : Way) (p rest : List ℕ) (h : good (angle way) (p ++ rest) ≡ t
   angle-goes : begins (angle way) p ≡ true
   angle-goes = cases (length p ≤? cols) (λ e. angle-part (to≤ e)) (λ e. whole (angle way) p rest (unfold width in no≤ e) h)
 
--- ---- YYYYMM
+-- ---- YYYYMM: January of the year 1 behind a beginning
+module _ (v x : ℕ) where
+  -- within the year
+  year-on : isMonth (v * 1_000 + x) ≡ true → isMonth (v * 1_000 + 101) ≡ true
+  unfolding isMonth
+  year-on m = let y = to-within (both m .0) in and (of-within (omega arith) (omega arith)) (of-within (omega arith) (omega arith))
+
+  -- behind the year
+  months-on : x < 100 → isMonth (v * 100 + x) ≡ true → isMonth (v * 100 + 1) ≡ true
+  unfolding isMonth
+  months-on k m = let y = to-within (both m .0) in and (of-within (omega arith) (omega arith)) (of-within (omega arith) (omega arith))
+
+  -- within the month
+  month-on : x < 10 → isMonth (v * 10 + x) ≡ true → isMonth (v * 10 + 1) ≡ true
+  unfolding isMonth
+  month-on k m = let y = to-within (both m .0) in let z = to-within (both m .1) in and (of-within (omega arith) (omega arith)) (of-within (omega arith) (omega arith))
+
 module _ (p rest : List ℕ) (h : good month (p ++ rest) ≡ true) where
   month-size : length p + length rest ≡ 6
   month-size = sym (length-append p rest) ∙ (unfold width in sized month (p ++ rest) h)
 
-  month-digits : all isDigit (p ++ rest) ≡ true
-  month-digits = unfold shape in shaped month (p ++ rest) h
+  month-digits : (all isDigit p ≡ true) × (all isDigit rest ≡ true)
+  month-digits = all-parts isDigit p rest (unfold shape in shaped month (p ++ rest) h)
 
-  -- the number, with r columns to come
-  month-value : (r : ℕ) → length p + r ≡ 6 → isMonth (val 0 p * 10 ^ r + val 0 rest) ≡ true
-  month-value r e =
-      let same : length rest ≡ r = omega (arith, month-size) in
-      subst (λ n. isMonth n ≡ true) (val-append 0 p rest ∙ val-from (val 0 p) rest ∙ ap (λ k. val 0 p * 10 ^ k + val 0 rest) same) (unfold fits onNumber valueOf in fitting month (p ++ rest) h)
+  month-rest : val 0 rest < 10 ^ length rest
+  month-rest = digits-lt (length rest) rest (month-digits .1) (omega arith)
 
-  month-rest : (r : ℕ) → length p + r ≡ 6 → val 0 rest < 10 ^ r
-  month-rest r e = digits-lt r rest (all-parts isDigit p rest month-digits .1) (omega (arith, month-size))
+  month-was : isMonth (val 0 p * 10 ^ length rest + val 0 rest) ≡ true
+  month-was = subst (λ n. isMonth n ≡ true) (val-cut (length rest) p rest refl) (unfold fits onNumber valueOf in fitting month (p ++ rest) h)
 
-  month-end : (ds : List ℕ) → all isDigit ds ≡ true → length p + length ds ≡ 6 → isMonth (val 0 p * 10 ^ length ds + val 0 ds) ≡ true → good month (p ++ ds) ≡ true
-  unfolding width shape valueOf
-  month-end ds k e m =
-      goodly month (p ++ ds) (length-append p ds ∙ e) (all-append isDigit p ds (all-parts isDigit p rest month-digits .0) k)
-      (ap (λ n. num (pos n)) (val-append 0 p ds ∙ val-from (val 0 p) ds)) (unfold fits onNumber in m) .0
-
--- January of the year 1 behind a beginning
-module _ (v x : ℕ) where
-  month-5 : x < 100_000 → isMonth (v * 100_000 + x) ≡ true → isMonth (v * 100_000 + 101) ≡ true
-  unfolding isMonth
-  month-5 k m = let y = to-within (both m .0) in and (of-within (omega arith) (omega arith)) (of-within (omega arith) (omega arith))
-
-  month-4 : x < 10_000 → isMonth (v * 10_000 + x) ≡ true → isMonth (v * 10_000 + 101) ≡ true
-  unfolding isMonth
-  month-4 k m = let y = to-within (both m .0) in and (of-within (omega arith) (omega arith)) (of-within (omega arith) (omega arith))
-
-  month-3 : x < 1_000 → isMonth (v * 1_000 + x) ≡ true → isMonth (v * 1_000 + 101) ≡ true
-  unfolding isMonth
-  month-3 k m = let y = to-within (both m .0) in and (of-within (omega arith) (omega arith)) (of-within (omega arith) (omega arith))
-
-  month-2 : x < 100 → isMonth (v * 100 + x) ≡ true → isMonth (v * 100 + 1) ≡ true
-  unfolding isMonth
-  month-2 k m = let y = to-within (both m .0) in and (of-within (omega arith) (omega arith)) (of-within (omega arith) (omega arith))
-
-  month-1 : x < 10 → isMonth (v * 10 + x) ≡ true → isMonth (v * 10 + 1) ≡ true
-  unfolding isMonth
-  month-1 k m = let y = to-within (both m .0) in let z = to-within (both m .1) in and (of-within (omega arith) (omega arith)) (of-within (omega arith) (omega arith))
+  -- b is what 000101 has in the columns to come
+  month-by : (a b : ℕ) → 101 ≡ a * 10 ^ length rest + b → b < 10 ^ length rest → isMonth (val 0 p * 10 ^ length rest + b) ≡ true → begins month p ≡ true
+  unfolding render least onNumber width shape valueOf
+  month-by a b e l m =
+      let r = length rest in
+      let same : drop (length p) (put 6 101) ≡ put r b = ap₂ (λ n k. drop (length p) (put n k)) (sym month-size) e ∙ put-behind (length p) r a b l in
+      let value : val 0 (p ++ put r b) ≡ val 0 p * 10 ^ r + b = val-cut r p (put r b) (length-put r b) ∙ ap (λ n. val 0 p * 10 ^ r + n) (val-put r b l) in
+      by-least month p
+      (rw same
+      (goodly month (p ++ put r b) (length-append p (put r b) ∙ omega (arith, month-size, length-put r b)) (all-append isDigit p (put r b) (month-digits .0) (digits-put r b))
+      (ap (λ n. num (pos n)) value) (unfold fits onNumber in m) .0))
 
 month-goes : (p rest : List ℕ) → good month (p ++ rest) ≡ true → begins month p ≡ true
-unfolding render least onNumber put val
-month-goes [] rest h = by-least month [] (unfold good width shape valueOf fits onNumber isMonth all isDigit within val _≤?_ _=?_ _&_ in refl)
-month-goes (a ∷ []) rest h =
-    let p = a ∷ [] in by-least month p (month-end p rest h (48 ∷ 48 ∷ 49 ∷ 48 ∷ 49 ∷ []) (all-drop isDigit 1 (put 6 101) (digits-put 6 101)) refl (month-5 (val 0 p) (val 0 rest) (month-rest p rest h 5 refl) (month-value p rest h 5 refl)))
-month-goes (a ∷ b ∷ []) rest h =
-    let p = a ∷ b ∷ [] in by-least month p (month-end p rest h (48 ∷ 49 ∷ 48 ∷ 49 ∷ []) (all-drop isDigit 2 (put 6 101) (digits-put 6 101)) refl (month-4 (val 0 p) (val 0 rest) (month-rest p rest h 4 refl) (month-value p rest h 4 refl)))
-month-goes (a ∷ b ∷ c ∷ []) rest h =
-    let p = a ∷ b ∷ c ∷ [] in by-least month p (month-end p rest h (49 ∷ 48 ∷ 49 ∷ []) (all-drop isDigit 3 (put 6 101) (digits-put 6 101)) refl (month-3 (val 0 p) (val 0 rest) (month-rest p rest h 3 refl) (month-value p rest h 3 refl)))
-month-goes (a ∷ b ∷ c ∷ d ∷ []) rest h =
-    let p = a ∷ b ∷ c ∷ d ∷ [] in by-least month p (month-end p rest h (48 ∷ 49 ∷ []) (all-drop isDigit 4 (put 6 101) (digits-put 6 101)) refl (month-2 (val 0 p) (val 0 rest) (month-rest p rest h 2 refl) (month-value p rest h 2 refl)))
-month-goes (a ∷ b ∷ c ∷ d ∷ e ∷ []) rest h =
-    let p = a ∷ b ∷ c ∷ d ∷ e ∷ [] in by-least month p (month-end p rest h (49 ∷ []) (all-drop isDigit 5 (put 6 101) (digits-put 6 101)) refl (month-1 (val 0 p) (val 0 rest) (month-rest p rest h 1 refl) (month-value p rest h 1 refl)))
-month-goes (a ∷ b ∷ c ∷ d ∷ e ∷ f ∷ p) rest h = whole month (a ∷ b ∷ c ∷ d ∷ e ∷ f ∷ p) rest (unfold width in omega arith) h
+month-goes p [] h = whole month p [] (unfold width in omega (arith, month-size p [] h)) h
+month-goes p (c ∷ []) h = month-by p (c ∷ []) h 10 1 refl (omega arith) (month-on (val 0 p) _ (month-rest p (c ∷ []) h) (month-was p (c ∷ []) h))
+month-goes p (c ∷ d ∷ []) h = month-by p (c ∷ d ∷ []) h 1 1 refl (omega arith) (months-on (val 0 p) _ (month-rest p (c ∷ d ∷ []) h) (month-was p (c ∷ d ∷ []) h))
+month-goes p (c ∷ d ∷ e ∷ t) h =
+    let s = length t in
+    let far : val 0 p * 10 ^ suc (suc (suc s)) ≡ val 0 p * 10 ^ s * 1_000 = ap (λ k. val 0 p * k) thousand ∙ sym (mul-assoc (val 0 p) (10 ^ s) 1_000) in
+    month-by p (c ∷ d ∷ e ∷ t) h 0 101 (omega arith) (omega (arith, pow-le-pow-right {n = 10} (omega arith) {i = 3} {j = suc (suc (suc s))} (omega arith))) (rw far (year-on (val 0 p * 10 ^ s) _ (rw far at (month-was p (c ∷ d ∷ e ∷ t) h))))
+  where
+    thousand : 10 ^ suc (suc (suc (length t))) ≡ 10 ^ length t * 1_000
+    thousand = omega arith
 
 -- ---- media identifier
 record Labelled (a b c d e g : ℕ) (t : List ℕ) : Type 0 where
@@ -530,7 +518,7 @@ labelled {a} {b} {c} {d} {e} {g} {t} m =
     (and (and (and (and (m .maker) (m .day)) (of≤ (one-digit e (both (both (both (both (m .digits) .1) .1) .1) .0)))) (m .session)) (and (of≡ (m .four)) (m .printed))) .0
   where
     one-digit : (b : ℕ) → isDigit b ≡ true → val 0 (b ∷ []) ≤ 9
-    one-digit b h = unfold val in omega (arith, digit-to b h)
+    one-digit b h = unfold val notAbove9 in omega (arith, to≤ (digit-low b h))
 
 -- the least one, A001, year 0, session 0, no mark
 least-label : Labelled 65 48 48 49 48 48 (32 ∷ 32 ∷ 32 ∷ 32 ∷ [])
@@ -566,19 +554,23 @@ module _ (a : ℕ) (bs : List ℕ) (h : good media (a ∷ bs) ≡ true) where
   unfolding isMedia
   its-mark = (to≡ (both (both its-parts .1) .0), both (both its-parts .1) .1)
 
--- day 1 behind its first digits
-day-2 : (b : ℕ) (rest : List ℕ) → 2 ≤ length rest → within 1 366 (val 0 (b ∷ take 2 rest)) ≡ true → within 1 366 (val 0 (b ∷ 48 ∷ 49 ∷ [])) ≡ true
-unfolding val
-day-2 b rest l h =
-    let e : val (0 * 10 + (b - 48)) (take 2 rest) ≡ (0 * 10 + (b - 48)) * 100 + val 0 (take 2 rest) = val-from (0 * 10 + (b - 48)) (take 2 rest) ∙ ap (λ k. (0 * 10 + (b - 48)) * 10 ^ k + val 0 (take 2 rest)) (length-take-le 2 rest l) in
-    of-within (omega arith) (omega (arith, e, to-within h .1))
+-- day 001 of year 0
+abbrev firstDay : List ℕ
+firstDay = 48 ∷ 48 ∷ 49 ∷ 48 ∷ []
 
-day-1 : (b c : ℕ) (rest : List ℕ) → 1 ≤ length rest → within 1 366 (val 0 (b ∷ c ∷ take 1 rest)) ≡ true → within 1 366 (val 0 (b ∷ c ∷ 49 ∷ [])) ≡ true
-unfolding val
-day-1 b c rest l h =
-    let a = (0 * 10 + (b - 48)) * 10 + (c - 48) in
-    let e : val a (take 1 rest) ≡ a * 10 + val 0 (take 1 rest) = val-from a (take 1 rest) ∙ ap (λ k. a * 10 ^ k + val 0 (take 1 rest)) (length-take-le 1 rest l) in
-    of-within (omega arith) (omega (arith, e, to-within h .1))
+-- day 1 behind its first digits
+day-on : (ds rest : List ℕ) (r : ℕ) → suc r ≤ length rest → within 1 366 (val 0 (ds ++ take (suc r) rest)) ≡ true → within 1 366 (val 0 (ds ++ put (suc r) 1)) ≡ true
+day-on ds rest r l h =
+    let tens : val 0 ds * 10 ^ suc r ≡ val 0 ds * 10 ^ r * 10 = ap (λ k. val 0 ds * k) ten ∙ sym (mul-assoc (val 0 ds) (10 ^ r) 10) in
+    let was = val-cut (suc r) ds (take (suc r) rest) (length-take-le (suc r) rest l) in
+    let is = val-cut (suc r) ds (put (suc r) 1) (length-put (suc r) 1) in
+    of-within (omega (arith, is, val-put (suc r) 1 one)) (omega (arith, is, was, tens, val-put (suc r) 1 one, to-within h .1))
+  where
+    ten : 10 ^ suc r ≡ 10 ^ r * 10
+    ten = omega arith
+
+    one : 1 < 10 ^ suc r
+    one = omega (arith, pow-le-pow-right {n = 10} (omega arith) {i = 1} {j = suc r} (omega arith))
 
 module _ (rest : List ℕ) where
   media-goes : (p : List ℕ) → good media (p ++ rest) ≡ true → begins media p ≡ true
@@ -586,16 +578,13 @@ module _ (rest : List ℕ) where
   media-goes [] h = by-least media [] (labelled least-label)
   media-goes (a ∷ []) h = by-least media (a ∷ []) (labelled record { maker = its-maker a rest h; digits = least-label .digits; day = least-label .day; session = least-label .session; four = refl; printed = least-label .printed })
   media-goes (a ∷ b ∷ []) h =
-      let ds = its-digits a (b ∷ rest) h in
-      by-least media (a ∷ b ∷ []) (labelled record { maker = its-maker a (b ∷ rest) h; digits = and (both ds .0) (both (least-label .digits) .1); day = day-2 b rest (omega (arith, nine-left a (b ∷ rest) h)) (its-day a (b ∷ rest) h); session = least-label .session; four = refl; printed = least-label .printed })
+      by-least media (a ∷ b ∷ []) (labelled record { maker = its-maker a (b ∷ rest) h; digits = all-ended (b ∷ []) (take 3 rest) firstDay isDigit (its-digits a (b ∷ rest) h) (least-label .digits); day = day-on (b ∷ []) rest 1 (omega (arith, nine-left a (b ∷ rest) h)) (its-day a (b ∷ rest) h); session = least-label .session; four = refl; printed = least-label .printed })
   media-goes (a ∷ b ∷ c ∷ []) h =
       let bs = b ∷ c ∷ rest in
-      let ds = its-digits a bs h in
-      by-least media (a ∷ b ∷ c ∷ []) (labelled record { maker = its-maker a bs h; digits = and (both ds .0) (and (both (both ds .1) .0) (both (both (least-label .digits) .1) .1)); day = day-1 b c rest (omega (arith, nine-left a bs h)) (its-day a bs h); session = least-label .session; four = refl; printed = least-label .printed })
+      by-least media (a ∷ b ∷ c ∷ []) (labelled record { maker = its-maker a bs h; digits = all-ended (b ∷ c ∷ []) (take 2 rest) firstDay isDigit (its-digits a bs h) (least-label .digits); day = day-on (b ∷ c ∷ []) rest 0 (omega (arith, nine-left a bs h)) (its-day a bs h); session = least-label .session; four = refl; printed = least-label .printed })
   media-goes (a ∷ b ∷ c ∷ d ∷ []) h =
       let bs = b ∷ c ∷ d ∷ rest in
-      let ds = its-digits a bs h in
-      by-least media (a ∷ b ∷ c ∷ d ∷ []) (labelled record { maker = its-maker a bs h; digits = and (both ds .0) (and (both (both ds .1) .0) (and (both (both (both ds .1) .1) .0) (both (both (both (least-label .digits) .1) .1) .1))); day = its-day a bs h; session = least-label .session; four = refl; printed = least-label .printed })
+      by-least media (a ∷ b ∷ c ∷ d ∷ []) (labelled record { maker = its-maker a bs h; digits = all-ended (b ∷ c ∷ d ∷ []) (take 1 rest) firstDay isDigit (its-digits a bs h) (least-label .digits); day = its-day a bs h; session = least-label .session; four = refl; printed = least-label .printed })
   media-goes (a ∷ b ∷ c ∷ d ∷ e ∷ []) h =
       let bs = b ∷ c ∷ d ∷ e ∷ rest in
       by-least media (a ∷ b ∷ c ∷ d ∷ e ∷ []) (labelled record { maker = its-maker a bs h; digits = its-digits a bs h; day = its-day a bs h; session = least-label .session; four = refl; printed = least-label .printed })

@@ -39,6 +39,9 @@ val-from a (b ∷ ys) =
     let e : a * 10 ^ suc (length ys) ≡ a * 10 * 10 ^ length ys = ap (λ k. a * k) (pow-succ' 10 (length ys)) ∙ sym (mul-assoc a 10 (10 ^ length ys)) in
     val-from (a * 10 + (b - 48)) ys ∙ omega (arith, e, val-from (0 * 10 + (b - 48)) ys)
 
+pub val-cut : (n : ℕ) (xs ys : List ℕ) → length ys ≡ n → val 0 (xs ++ ys) ≡ val 0 xs * 10 ^ n + val 0 ys
+val-cut n xs ys e = val-append 0 xs ys ∙ val-from (val 0 xs) ys ∙ ap (λ k. val 0 xs * 10 ^ k + val 0 ys) e
+
 pub val-zeros : (a : ℕ) (bs : List ℕ) → all (λ b. b =? 48) bs ≡ true → val a bs ≡ a * 10 ^ length bs
 unfolding val all
 val-zeros a [] h = omega arith

@@ -6,8 +6,8 @@ use mathlib.Core.List.{List, [], _∷_, _++_, append-assoc, append-nil}
 use Prim.Native.Nat.{ℕ, zero, suc, _+_, _-_, _*_, _/_, _%_, _^_, _≤_, _<_}
 use native.Mathlib.Nat.{mul-assoc, pow-suc}
 use native.Mathlib.Omega.{arith}
-use lib.ListN.{length, length-append, replicate, length-replicate, take, getD, drop-of-length-le}
-use lib.Seq.{take-at, getD-at, split-at, length-take-le}
+use lib.ListN.{length, length-append, replicate, length-replicate, take, drop, getD, drop-of-length-le}
+use lib.Seq.{take-at, drop-at, getD-at, split-at, length-take-le}
 use lib.IntN.{ℤ, pos}
 use Rattle.rules.specs.Tests.{all, within, _&_, _≤?_, _=?_}
 use Rattle.rules.specs.Characters.{isBlank, isDigit, isLetter, Set, letter, digit, printable, _or_, member}
@@ -43,7 +43,7 @@ unfolding put
 put-val w ds e h = let z : 0 + length ds ≡ w = omega (arith, e) in sym (put-more 0 0 ds h) ∙ ap (λ k. put k (val 0 ds)) z
 
 -- two numbers side by side are one
-pub put-join : (v w a b : ℕ) → b < 10 ^ w → put (v + w) (a * 10 ^ w + b) ≡ put v a ++ put w b
+put-join : (v w a b : ℕ) → b < 10 ^ w → put (v + w) (a * 10 ^ w + b) ≡ put v a ++ put w b
 unfolding put
 put-join v zero a b h =
     let e : v + 0 ≡ v = omega arith in
@@ -59,6 +59,9 @@ put-join v (suc w) a b h =
     ∙ ap₂ (λ k c. put (v + w) k ++ (48 + c) ∷ []) over under
     ∙ ap (λ (x : List ℕ). x ++ (48 + b % 10) ∷ []) (put-join v w a (b / 10) small)
     ∙ append-assoc (put v a) (put w (b / 10)) ((48 + b % 10) ∷ [])
+
+pub put-behind : (v w a b : ℕ) → b < 10 ^ w → drop v (put (v + w) (a * 10 ^ w + b)) ≡ put w b
+put-behind v w a b h = ap (drop v) (put-join v w a b h) ∙ drop-at (put v a) (put w b) v (length-put v a)
 
 -- ---- words, blanks and constants
 module _ (i : Item) (bs : List ℕ) where

@@ -10,7 +10,7 @@ spot-item-spec =
     (tie.spec
     (λ c κs. search needs)
     (λ c κs. let s = c .before .before in
-    item-spans (s .args .item) (s .args .part .now) (c .field-kind .ensures) (s .pre))
+    item-spans (s .args .item) (s .args .part .now) (c .field-kind .result) (c .field-kind .ensures) (s .pre))
     (λ c. let k = c .before in
     let s = k .before .before in
-    item-spot (s .args .item) (s .args .part .now) (k .field-kind .ensures) (c .first-bad .ensures)))
+    item-spot (s .args .item) (s .args .part .now) (k .field-kind .result) (k .field-kind .ensures) (c .first-bad .ensures)))
