@@ -11,7 +11,8 @@
  * number, record and column are the scope paper's fault: 0 0 0 is acceptance.
  * Of a 9, a field not of its kind or range, shelf_check, shelf_rewrite and
  * shelf_read give the first column at which no acceptable field begins with
- * the characters up to there, shelf_write the field's first.
+ * the characters up to there, shelf_write the field's first. A 12 is a *25*,
+ * *91* or *92* that names an undefined number.
  * A kind is 0 to 13, in the order AA 10 11 12 25 26 27 70 72 80 86 91 92 93.
  */
 #ifndef SHELF_H
@@ -33,7 +34,8 @@ extern "C" {
 #define SHELF_PAD_ANSWER 4
 #define SHELF_TABLE_WORDS 12000
 
-/* A missing height, in what shelf_read gives and shelf_write takes. */
+/* A missing height, in what shelf_read gives and shelf_write takes: only an
+ * *86* can have one. */
 #define SHELF_MISSING INT64_MIN
 
 /* Judges a file.
@@ -66,12 +68,13 @@ void shelf_rewrite(const uint8_t *file, size_t len,
  * number (-1 missing), then the values in column order; unused words are 0,
  * and on a refusal so are the sequence number's and all values' words.
  * Values: of a job-code record the two characters of its code first. From
- * column 11 on a number, a height in millimetres (missing: SHELF_MISSING)
- * and an angle in hundred-thousandths of a second, north and east positive,
- * one word each; a date of a *12* one word YYYYMM; a code of at most four
- * columns one word for each character; the media identifier maker
- * (character), day, digit of the year (0 to 9), session (character), four
- * characters. Blank fields, the constant 4 and texts of more than four
+ * column 11 on one word each for a number, a height in millimetres (missing:
+ * SHELF_MISSING), a standard deviation in 0.01 cm, a signed correlation in
+ * 0.00000001, a variance factor in 0.001, an angle in hundred-thousandths of
+ * a second, north and east positive, and a date of a *12* as YYYYMM; a code
+ * of at most four columns one word for each character; the media identifier
+ * maker (character), day, digit of the year (0 to 9), session (character),
+ * four characters. Blank fields, the constant 4 and texts of more than four
  * columns have no word: shelf_field gives the texts. */
 void shelf_read(const uint8_t *file, size_t len, uint32_t record,
                 int64_t *answer, size_t answers);

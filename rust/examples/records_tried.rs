@@ -17,9 +17,9 @@ const NAMES: [&str; 14] = [
     "",
     "",
     "",
-    "network ",
-    "local ",
-    "factor ",
+    "",
+    "",
+    "",
 ];
 
 const POINT_NAME: &[u8] = b"HILL 1931                     ";
@@ -158,7 +158,49 @@ fn write_refused(out: &mut impl Write) -> io::Result<()> {
         values.extend([SPACE, SPACE, geoid, model.into(), MISSING, SPACE, SPACE]);
         refused(out, 82, 10, None, &values, [&[b' '; 6], &[b' '; 24]])?;
     }
+    networks_refused(out)?;
+    locals_refused(out)?;
+    factors_refused(out)?;
     refused(out, 80, 0, Some(0), &b"aa".map(i64::from), [b"", b""])
+}
+
+fn networks_refused(out: &mut impl Write) -> io::Result<()> {
+    for (north, east, correlation, up, code) in [
+        (999_999_999, 0, -99_999_990, 0, b'Y'),
+        (1_000_000_000, 0, 0, 0, b'Y'),
+        (0, 1_000_000_000, 0, 0, b'Y'),
+        (0, 0, -99_999_991, 0, b'Y'),
+        (0, 0, 99_999_999, 999_999_999, b'N'),
+        (0, 0, 100_000_000, 0, b'N'),
+        (0, 0, 0, 1_000_000_000, b'N'),
+        (0, 0, 0, 0, b' '),
+    ] {
+        let values = [1, north, east, correlation, up, code.into()];
+        refused(out, 82, 11, None, &values, [&[b' '; 15], b""])?;
+    }
+    Ok(())
+}
+
+fn locals_refused(out: &mut impl Write) -> io::Result<()> {
+    for (standpoint, forepoint, north, comment) in [
+        (1, 2, 0, 13),
+        (1, 1, 0, 13),
+        (0, 0, 0, 13),
+        (1, 10_000, 0, 13),
+        (1, 1, 1_000_000_000, 13),
+        (1, 2, 0, 12),
+    ] {
+        let values = [standpoint, forepoint, north, 0, 0, 0, b'N'.into()];
+        refused(out, 82, 12, None, &values, [&[b' '; 13][..comment], b""])?;
+    }
+    Ok(())
+}
+
+fn factors_refused(out: &mut impl Write) -> io::Result<()> {
+    for values in [[1, 9_999], [0, 1], [10_000, 1], [1, 0], [1, 10_000]] {
+        refused(out, 82, 13, None, &values, [&[b' '; 54], b""])?;
+    }
+    Ok(())
 }
 
 fn refused(

@@ -63,7 +63,7 @@ struct Plan {
     points: usize,
     network: usize,
     local: usize,
-    last_accuracy: bool,
+    factor: bool,
 }
 
 impl Plan {
@@ -77,7 +77,7 @@ impl Plan {
             points: 1,
             network: 0,
             local: 0,
-            last_accuracy: false,
+            factor: false,
         }
     }
 }
@@ -90,7 +90,7 @@ fn plan(dice: &mut Dice, records: usize) -> Plan {
         spare -= 1;
     }
     if spare > 0 && !dice.one_in(3) {
-        plan.last_accuracy = true;
+        plan.factor = true;
         spare -= 1;
     }
     while spare > 0 {
@@ -124,7 +124,8 @@ fn plan(dice: &mut Dice, records: usize) -> Plan {
                 plan.network += 1;
                 spare -= 1;
             }
-            19 => {
+            // It names two stations.
+            19 if plan.points >= 2 => {
                 plan.local += 1;
                 spare -= 1;
             }
@@ -148,7 +149,9 @@ pub enum Mostly {
     /// *26*
     Comments,
     /// *91*
-    Accuracies,
+    Network,
+    /// *92*, with one more *80* and *86*, since each names two stations
+    Local,
     /// *25* with two *27*
     Groups,
     /// *70* and *72*, 999 of each at most
@@ -164,7 +167,12 @@ pub fn accepted_mostly(seed: u64, mostly: Mostly, records: usize) -> Vec<u8> {
     let mut plan = Plan::shortest();
     match mostly {
         Mostly::Comments => plan.groups[0].0 = spare,
-        Mostly::Accuracies => plan.network = spare,
+        Mostly::Network => plan.network = spare,
+        Mostly::Local if spare < 3 => (),
+        Mostly::Local => {
+            plan.points = 2;
+            plan.local = spare - 2;
+        }
         Mostly::Groups => plan.groups.resize(1 + spare / 3, (0, false)),
         Mostly::Equipment => {
             plan.instruments = (1 + spare / 2).min(999);
@@ -212,17 +220,24 @@ fn planned(dice: &mut Dice, plan: &Plan) -> Vec<u8> {
         point(dice, &mut file, station);
         heights(dice, &mut file, station);
     }
-    for _ in 0..plan.network {
-        printable_record(dice, &mut file, b"91");
-    }
-    for _ in 0..plan.local {
-        printable_record(dice, &mut file, b"92");
-    }
-    if plan.last_accuracy {
-        printable_record(dice, &mut file, b"93");
-    }
+    accuracies(dice, &mut file, plan, &stations);
     job_record(dice, &mut file, job);
     file
+}
+
+fn accuracies(dice: &mut Dice, file: &mut Vec<u8>, plan: &Plan, stations: &[i64]) {
+    for _ in 0..plan.network {
+        let station = dice.pick(stations);
+        network(dice, file, station);
+    }
+    for _ in 0..plan.local {
+        let here = dice.below(stations.len());
+        let there = (here + 1 + dice.below(stations.len() - 1)) % stations.len();
+        local(dice, file, stations[here], stations[there]);
+    }
+    if plan.factor {
+        factor(dice, file);
+    }
 }
 
 /// So many different numbers from 1 to `most`, in no order. They are small
@@ -284,7 +299,7 @@ fn put_number(dice: &mut Dice, line: &mut [u8], first: usize, width: usize, valu
 }
 
 /// The minus anywhere before the digits; a zero now and then with a minus.
-fn put_height(dice: &mut Dice, line: &mut [u8], first: usize, width: usize, value: i64) {
+fn put_signed(dice: &mut Dice, line: &mut [u8], first: usize, width: usize, value: i64) {
     if value < 0 || (value == 0 && dice.one_in(2)) {
         let shortest = value.abs().to_string().len();
         let digits = match dice.below(3) {
@@ -299,14 +314,19 @@ fn put_height(dice: &mut Dice, line: &mut [u8], first: usize, width: usize, valu
     }
 }
 
-fn some_height(dice: &mut Dice, width: usize) -> i64 {
-    let most = 10_i64.pow(width as u32) - 1;
-    let least = 1 - 10_i64.pow(width as u32 - 1);
+/// The ends of the range and what is near zero come often.
+fn some_signed(dice: &mut Dice, least: i64, most: i64) -> i64 {
     match dice.below(4) {
         0 => dice.pick(&[least, most, 0, 1, -1, -500]),
         1 => dice.between(-2_000, 2_000),
         _ => dice.between(least, most),
     }
+}
+
+/// A height that has a code.
+fn put_coded_height(dice: &mut Dice, line: &mut [u8], first: usize) {
+    let height = some_signed(dice, -999_999, 9_999_999);
+    put_signed(dice, line, first, 7, height);
 }
 
 fn put_set(dice: &mut Dice, line: &mut [u8], first: usize, width: usize, set: &[u8]) {
@@ -395,8 +415,8 @@ fn measurement(dice: &mut Dice, file: &mut Vec<u8>, station: i64) {
     put_number(dice, line, 15, 6, date);
     let time = dice.between(0, 9_999);
     put_number(dice, line, 21, 4, time);
-    let height = some_height(dice, 5);
-    put_height(dice, line, 56, 5, height);
+    let height = some_signed(dice, -9_999, 99_999);
+    put_signed(dice, line, 56, 5, height);
 }
 
 fn instrument(dice: &mut Dice, file: &mut Vec<u8>, number: i64) {
@@ -454,8 +474,7 @@ fn heights(dice: &mut Dice, file: &mut Vec<u8>, station: i64) {
     let line = begin(dice, file, b"86");
     put_number(dice, line, 11, 4, station);
     if !dice.one_in(4) {
-        let height = some_height(dice, 7);
-        put_height(dice, line, 17, 7, height);
+        put_coded_height(dice, line, 17);
         put_set(dice, line, 24, 1, UPPER);
         put_set(dice, line, 27, 1, b"YN");
     }
@@ -467,17 +486,58 @@ fn heights(dice: &mut Dice, file: &mut Vec<u8>, station: i64) {
     }
     put_printable(dice, line, 30, 6);
     if !dice.one_in(4) {
-        let height = some_height(dice, 7);
-        put_height(dice, line, 36, 7, height);
+        put_coded_height(dice, line, 36);
         put_set(dice, line, 43, 1, UPPER_OR_DIGIT);
     }
     if !dice.one_in(4) {
-        let height = some_height(dice, 7);
-        put_height(dice, line, 46, 7, height);
+        put_coded_height(dice, line, 46);
         put_set(dice, line, 53, 1, UPPER);
     }
     put_set(dice, line, 56, 1, UPPER_OR_SPACE);
     put_printable(dice, line, 57, 24);
+}
+
+fn network(dice: &mut Dice, file: &mut Vec<u8>, station: i64) {
+    let line = begin(dice, file, b"91");
+    put_number(dice, line, 11, 4, station);
+    put_accuracy(dice, line, 21);
+    put_set(dice, line, 65, 1, b"YN");
+    put_printable(dice, line, 66, 15);
+}
+
+fn local(dice: &mut Dice, file: &mut Vec<u8>, from: i64, to: i64) {
+    let line = begin(dice, file, b"92");
+    put_number(dice, line, 11, 4, from);
+    put_number(dice, line, 17, 4, to);
+    put_accuracy(dice, line, 23);
+    put_set(dice, line, 67, 1, b"YN");
+    put_printable(dice, line, 68, 13);
+}
+
+fn factor(dice: &mut Dice, file: &mut Vec<u8>) {
+    let line = begin(dice, file, b"93");
+    for first in [11, 19] {
+        let factor = match dice.below(4) {
+            0 => dice.pick(&[1, 9_999, 1_000]),
+            _ => dice.between(1, 9_999),
+        };
+        put_number(dice, line, first, 8, factor);
+    }
+    put_printable(dice, line, 27, 54);
+}
+
+/// North, east, correlation and height, ten columns each.
+fn put_accuracy(dice: &mut Dice, line: &mut [u8], first: usize) {
+    for first in [first, first + 10, first + 30] {
+        let deviation = match dice.below(4) {
+            0 => dice.pick(&[0, 1, 999_999_999]),
+            1 => dice.between(0, 999_999_999),
+            _ => dice.between(0, 5_000),
+        };
+        put_number(dice, line, first, 10, deviation);
+    }
+    let correlation = some_signed(dice, -99_999_990, 99_999_999);
+    put_signed(dice, line, first + 20, 10, correlation);
 }
 
 /// The ways to damage a file.
@@ -503,13 +563,15 @@ pub enum Damage {
     /// Another code, known or not.
     Code,
     Sequence,
-    /// A *25* that names a number nobody defines; its *27* follow suit.
+    /// A *25* that names a number nobody defines, its *27* follow suit; or a
+    /// *91* or *92* that names such a station.
     Undefined,
     /// A point that takes another's number, or is there twice.
     Repeated,
     /// A *27*, *70*, *72* or *86* whose number disagrees with an earlier one.
     Disagreeing,
-    /// A *12* whose months are exchanged, or a height's code put or taken.
+    /// A *12* whose months are exchanged, a height's code put or taken, or a
+    /// *92* of one station.
     DisagreeingFields,
     /// Something after the end.
     Append,
@@ -733,31 +795,38 @@ fn starts(file: &[u8], kinds: &[usize]) -> Vec<usize> {
 }
 
 fn undefined(dice: &mut Dice, file: &mut [u8]) {
-    let occupations = starts(file, &[layout::OCCUPATION]);
-    if occupations.is_empty() {
+    let kind = dice.pick(&[layout::OCCUPATION, layout::NETWORK, layout::LOCAL]);
+    let records = starts(file, &[kind]);
+    if records.is_empty() {
         return;
     }
-    let start = dice.pick(&occupations);
-    let line = &mut file[start..start + LINE];
-    match dice.below(3) {
-        0 => {
-            let number = dice.between(1, 999);
-            put_number(dice, line, 28, 3, number);
-        }
-        1 => {
-            let number = dice.between(1, 999);
-            put_number(dice, line, 33, 3, number);
-        }
-        _ => {
-            let station = dice.between(1, 9_999);
-            put_number(dice, line, 11, 4, station);
-            for line in file[start + LINE..].chunks_exact_mut(LINE) {
-                match layout::kind_of(&line[6..10]) {
-                    Some(layout::COMMENT) => (),
-                    Some(layout::MEASUREMENT) => put_number(dice, line, 11, 4, station),
-                    _ => break,
-                }
-            }
+    let start = dice.pick(&records);
+    if kind == layout::OCCUPATION {
+        return undefined_of_occupation(dice, &mut file[start..]);
+    }
+    let first = match kind {
+        layout::LOCAL => dice.pick(&[11, 17]),
+        _ => 11,
+    };
+    let station = dice.between(1, 9_999);
+    put_number(dice, &mut file[start..start + LINE], first, 4, station);
+}
+
+/// Of the *25* that `rest` begins with.
+fn undefined_of_occupation(dice: &mut Dice, rest: &mut [u8]) {
+    let (line, after) = rest.split_at_mut(LINE);
+    let first = dice.pick(&[11, 28, 33]);
+    if first != 11 {
+        let number = dice.between(1, 999);
+        return put_number(dice, line, first, 3, number);
+    }
+    let station = dice.between(1, 9_999);
+    put_number(dice, line, 11, 4, station);
+    for line in after.chunks_exact_mut(LINE) {
+        match layout::kind_of(&line[6..10]) {
+            Some(layout::COMMENT) => (),
+            Some(layout::MEASUREMENT) => put_number(dice, line, 11, 4, station),
+            _ => break,
         }
     }
 }
@@ -807,19 +876,27 @@ fn disagreeing(dice: &mut Dice, file: &mut [u8]) {
 }
 
 fn disagreeing_fields(dice: &mut Dice, file: &mut [u8]) {
-    let records = starts(file, &[layout::PROJECT, layout::HEIGHTS]);
+    let records = starts(file, &[layout::PROJECT, layout::HEIGHTS, layout::LOCAL]);
     if records.is_empty() {
         return;
     }
     let start = dice.pick(&records);
     let line = &mut file[start..start + LINE];
-    if layout::kind_of(&line[6..10]) == Some(layout::PROJECT) {
-        for column in 10..16 {
-            line.swap(column, column + 6);
+    match layout::kind_of(&line[6..10]) {
+        Some(layout::PROJECT) => {
+            for column in 10..16 {
+                line.swap(column, column + 6);
+            }
         }
-    } else {
-        let column = dice.pick(&[24, 27, 43, 53]);
-        let code = dice.pick(b" YNA");
-        put(line, column, &[code]);
+        Some(layout::LOCAL) => {
+            // Blanks before it or not, it is the same station.
+            let station = String::from_utf8_lossy(&line[10..14]).trim_start().parse();
+            put_number(dice, line, 17, 4, station.unwrap_or(0));
+        }
+        _ => {
+            let column = dice.pick(&[24, 27, 43, 53]);
+            let code = dice.pick(b" YNA");
+            put(line, column, &[code]);
+        }
     }
 }

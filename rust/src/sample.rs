@@ -120,8 +120,40 @@ pub fn no_heights(station: &str) -> Vec<u8> {
     line(&[(7, "*86*"), (11, station)])
 }
 
-pub fn accuracy(code: &str) -> Vec<u8> {
-    line(&[(7, code), (11, "kept as {printable} bytes~")])
+pub fn network(station: &str) -> Vec<u8> {
+    line(&[
+        (7, "*91*"),
+        (11, station),
+        (21, "       123"),
+        (31, "0000000098"),
+        (41, " -12345678"),
+        (51, "     00256"),
+        (65, "Y"),
+        (66, "{scaled}  a&b ~"),
+    ])
+}
+
+pub fn local(standpoint: &str, forepoint: &str) -> Vec<u8> {
+    line(&[
+        (7, "*92*"),
+        (11, standpoint),
+        (17, forepoint),
+        (23, "0999999999"),
+        (33, "         0"),
+        (43, "  50000000"),
+        (53, "    123456"),
+        (67, "N"),
+        (68, "Not scaled; ~"),
+    ])
+}
+
+pub fn factor() -> Vec<u8> {
+    line(&[
+        (7, "*93*"),
+        (11, "    1000"),
+        (19, "00002345"),
+        (27, "horizontal & vertical {factors} ~"),
+    ])
 }
 
 /// Records 1 to 24.
@@ -147,10 +179,10 @@ pub fn lines() -> Vec<Vec<u8>> {
         heights(" 345"),     // 18
         point("0012"),       // 19
         no_heights("  12"),  // 20
-        accuracy("*91*"),    // 21
-        accuracy("*92*"),    // 22
-        accuracy("*93*"),    // 23
-        job(),               // 24
+        network(" 345"),     // 21
+        local("  12", "0345"),
+        factor(),
+        job(), // 24
     ]
 }
 

@@ -20,6 +20,8 @@ use Rattle.kinds.specs.declared.Instrument.{Instrument}
 use Rattle.kinds.specs.declared.Antenna.{Antenna}
 use Rattle.kinds.specs.declared.Point.{Point}
 use Rattle.kinds.specs.declared.Heights.{Heights}
+use Rattle.kinds.specs.declared.Network.{Network}
+use Rattle.kinds.specs.declared.Local.{Local}
 use Rattle.kinds.specs.declared.Record.{Record}
 use Rattle.kinds.specs.declared.Record.the-variants as R
 use Rattle.kinds.specs.declared.Written.{Written}
@@ -46,10 +48,10 @@ characterOf z = heldOr 255 0 z
 abbrev pub digitOf : ℤ → ℕ
 digitOf z = heldOr 9 10 z
 
--- millimetres; 10,000,000 is no height
-unfoldable pub millimetresOf : ℤ → ℤ
-millimetresOf (pos n) = cond (n ≤? 9_999_999) (pos n) (pos 10_000_000)
-millimetresOf (negsuc n) = cond (suc n ≤? 9_999_999) (negsuc n) (pos 10_000_000)
+-- a signed number: a height in millimetres, a correlation; 100,000,000 is neither
+unfoldable pub signedOf : ℤ → ℤ
+signedOf (pos n) = cond (n ≤? 99_999_999) (pos n) (pos 100_000_000)
+signedOf (negsuc n) = cond (suc n ≤? 99_999_999) (negsuc n) (pos 100_000_000)
 
 -- the least word is a missing height
 unfoldable pub isLeast : ℤ → Bool
@@ -57,7 +59,7 @@ isLeast (pos n) = false
 isLeast (negsuc n) = suc n =? 9_223_372_036_854_775_808
 
 unfoldable pub heightOf : ℤ → Height
-heightOf z = cond (isLeast z) Height.Missing (Height.Mm (millimetresOf z))
+heightOf z = cond (isLeast z) Height.Missing (Height.Mm (signedOf z))
 
 -- -1 is a missing sequence number
 unfoldable pub sequenceOf : ℤ → Sequence
@@ -97,7 +99,7 @@ unfoldable pub occupationGiven : List ℤ → Occupation
 occupationGiven ws = record { station = numberAt ws 2; media = mediaAt ws 3; initials = threeAt ws 11; instrument = numberAt ws 14; antenna = numberAt ws 15 }
 
 unfoldable pub measurementGiven : List ℤ → Measurement
-measurementGiven ws = record { station = numberAt ws 2; date = numberAt ws 3; time = numberAt ws 4; height = millimetresOf (wordAt ws 5) }
+measurementGiven ws = record { station = numberAt ws 2; date = numberAt ws 3; time = numberAt ws 4; height = signedOf (wordAt ws 5) }
 
 unfoldable pub pointGiven : List ℤ → Point
 pointGiven ws = record { station = numberAt ws 2; latitude = wordAt ws 3; longitude = wordAt ws 4; state = twoAt ws 5 }
@@ -117,6 +119,20 @@ heightsGiven ws = record {
   ellipsoiddatum = characterAt ws 14;
 }
 
+unfoldable pub networkGiven : List ℤ → Network
+networkGiven ws = record { station = numberAt ws 2; north = numberAt ws 3; east = numberAt ws 4; correlation = signedOf (wordAt ws 5); ellipsoid = numberAt ws 6; scaled = characterAt ws 7 }
+
+unfoldable pub localGiven : List ℤ → Local
+localGiven ws = record {
+  standpoint = numberAt ws 2;
+  forepoint = numberAt ws 3;
+  north = numberAt ws 4;
+  east = numberAt ws 5;
+  correlation = signedOf (wordAt ws 6);
+  ellipsoid = numberAt ws 7;
+  scaled = characterAt ws 8;
+}
+
 -- the record of each kind
 unfoldable pub recordsGiven : List ℤ → List Record
 recordsGiven ws =
@@ -131,9 +147,9 @@ recordsGiven ws =
     ∷ R.Antenna record { antenna = numberAt ws 2; radome = fourAt ws 3 }
     ∷ R.Point (pointGiven ws)
     ∷ R.Heights (heightsGiven ws)
-    ∷ R.Network record {}
-    ∷ R.Local record {}
-    ∷ R.Factor record {}
+    ∷ R.Network (networkGiven ws)
+    ∷ R.Local (localGiven ws)
+    ∷ R.Factor record { horizontal = numberAt ws 2; vertical = numberAt ws 3 }
     ∷ []
 
 -- the record of kind k; where there is no such kind, one whose job code is none

@@ -19,7 +19,7 @@ unfoldable pub wordCount : Item → ℕ
 wordCount (blank w) = 0
 wordCount (constant c) = 0
 wordCount (number w lo hi may) = 1
-wordCount (height w may) = 1
+wordCount (height w lo hi may) = 1
 wordCount (angle way) = 1
 wordCount month = 1
 wordCount media = 8
@@ -48,9 +48,9 @@ unfoldable pub holdsSequence : ℤ → Bool
 holdsSequence (pos n) = n ≤? 4_294_967_294
 holdsSequence (negsuc n) = suc n =? 1
 
-unfoldable pub holdsMillimetres : ℤ → Bool
-holdsMillimetres (pos n) = n ≤? 9_999_999
-holdsMillimetres (negsuc n) = suc n ≤? 9_999_999
+unfoldable pub holdsSigned : ℤ → Bool
+holdsSigned (pos n) = n ≤? 99_999_999
+holdsSigned (negsuc n) = suc n ≤? 99_999_999
 
 unfoldable pub holdsCharacters : ℕ → List ℤ → ℕ → Bool
 holdsCharacters zero ws p = true
@@ -61,7 +61,7 @@ unfoldable pub holds : Item → List ℤ → ℕ → Bool
 holds (blank w) ws p = true
 holds (constant c) ws p = true
 holds (number w lo hi may) ws p = holdsNumber ws p
-holds (height w may) ws p = cond (isLeast (wordAt ws p)) may (holdsMillimetres (wordAt ws p))
+holds (height w lo hi may) ws p = cond (isLeast (wordAt ws p)) may (holdsSigned (wordAt ws p))
 holds (angle way) ws p = suc p ≤? length ws
 holds month ws p = holdsNumber ws p
 holds media ws p =

@@ -1,8 +1,8 @@
--- Numbers and heights: the form column by column is the form, its last column tells a blank one, and whatever has the form fits its own width. Assumes nothing.
-use mathlib.Core.Path.{_≡_, refl, sym, ap, _∙_}
+-- Numbers and heights: the form column by column is the form, its last column tells a blank one, and whatever has the form fits its own width, so that the range decides. Assumes nothing.
+use mathlib.Core.Path.{_≡_, refl, sym, ap, _∙_, subst}
 use mathlib.Core.Bool.{Bool, true, false, cond, not, _&&_, _||_, and-false, or-true, or-false, false≢true}
 use mathlib.Core.List.{List, [], _∷_}
-use Prim.Native.Nat.{ℕ, suc, _-_, _^_, _≤_, _<_}
+use Prim.Native.Nat.{ℕ, zero, suc, _+_, _-_, _^_, _≤_, _<_}
 use native.Mathlib.Omega.{arith}
 use lib.Dec.{leb, eqb}
 use lib.ListN.{length, getD}
@@ -10,11 +10,11 @@ use borrow.Author.Tests.{le-leb}
 use Rattle.rules.specs.Tests.{_&_, _≤?_, _=?_, within, all}
 use Rattle.rules.specs.Characters.{isBlank, isDigit}
 use Rattle.rules.specs.Digits.{val}
-use Rattle.rules.specs.Items.{numForm, heightForm, minus, number, height, onNumber, width, shape, valueOf, fits, good}
+use Rattle.rules.specs.Items.{num, numForm, heightForm, minus, signed, number, height, onNumber, width, shape, valueOf, fits, good}
 use Rattle.rules.proofs.Truth.{both, and, of≤, to≡, of≡, to-within, is-no, cases, and-true, all-weaken}
 use Rattle.rules.proofs.DigitLaws.{notAbove9, val-lt}
-use Rattle.rules.proofs.FormLaws.{digit-low, up, down}
-use Rattle.columns.specs.Leaves.{formed, lastOf}
+use Rattle.rules.proofs.FormLaws.{digit-low}
+use Rattle.columns.specs.Leaves.{formed, lastOf, between}
 use Rattle.columns.proofs.Loops.{&-is, pow-most}
 use Rattle.columns.proofs.ItemLaws.{same-size}
 
@@ -97,7 +97,7 @@ is-low b k l e = of≤ (omega (arith, to≡ e))
 digits-low : (bs : List ℕ) → all isDigit bs ≡ true → all notAbove9 bs ≡ true
 digits-low bs h = all-weaken isDigit notAbove9 digit-low bs h
 
-form-low : (m p : ℕ) (bs : List ℕ) → m ≤ 57 → formed m p bs ≡ true → all notAbove9 bs ≡ true
+pub form-low : (m p : ℕ) (bs : List ℕ) → m ≤ 57 → formed m p bs ≡ true → all notAbove9 bs ≡ true
 unfolding formed all
 form-low m p [] l h = refl
 form-low m p (b ∷ bs) l h = and (any (both h .0)) (form-low m b bs l (both h .1))
@@ -105,7 +105,7 @@ form-low m p (b ∷ bs) l h = and (any (both h .0)) (form-low m b bs l (both h .
     any : (isDigit b || (b =? 32 || b =? m) && p =? 32) ≡ true → notAbove9 b ≡ true
     any k = cases (isDigit b) (digit-low b) (λ d. cases (b =? 32) (is-low b 32 (omega arith)) (λ e. cases (b =? m) (is-low b m l) (λ f. absurd (false≢true (rw (d, e, f) at k)))))
 
-form-lt : (m : ℕ) (bs : List ℕ) → m ≤ 57 → formed m 32 bs ≡ true → val 0 bs < 10 ^ length bs
+pub form-lt : (m : ℕ) (bs : List ℕ) → m ≤ 57 → formed m 32 bs ≡ true → val 0 bs < 10 ^ length bs
 form-lt m bs l h = omega (arith, val-lt 0 bs (form-low m 32 bs l h))
 
 -- a field that is not blank has a column
@@ -158,24 +158,44 @@ minus-lt (b ∷ bs) h k =
     wider : heightForm bs ≡ true → minus bs ≡ true → b =? 32 ≡ true → val 0 bs < 10 ^ (length bs - 1) → val 0 (b ∷ bs) < 10 ^ (length (b ∷ bs) - 1)
     wider _ _ e l = rw (first (omega (arith, to≡ e)), less) (omega (arith, l, pow-most (length bs - 1) (length bs) (omega arith)))
 
-module _ (may : Bool) (bs : List ℕ) where
-  height-fits : formed 45 32 bs ≡ true → fits (height (length bs) may) (valueOf (height (length bs) may) bs) ≡ cond (all isBlank bs) may true
+-- zero is held with either sign, and any other by the end on its side
+module _ (w lo hi : ℕ) (may : Bool) where
+  pub held-above : (n : ℕ) → 1 ≤ w → n < 10 ^ w → fits (height w lo hi may) (num (signed false n)) ≡ between lo hi false n
+  unfolding fits signed onNumber between _&_
+  held-above n p h = rw (of≤ p, of≤ h)
+
+  pub held-below : (n : ℕ) → 1 ≤ w → n < 10 ^ (w - 1) → fits (height w lo hi may) (num (signed true n)) ≡ between lo hi true n
+  unfolding fits signed onNumber between _&_
+  held-below zero p h = rw (of≤ p, of≤ {m = 1} {n = 10 ^ w} (omega (arith, pow-most (w - 1) w (omega arith))), of≤ {m = 0} {n = hi} (omega arith), of≤ {m = 0} {n = lo} (omega arith))
+  held-below (suc n) p h = rw (of≤ p, of≤ h)
+
+-- a range as wide as its columns holds all that has the form
+pub form-between : (w lo hi : ℕ) → lo + 1 ≡ 10 ^ w → hi + 1 ≡ 10 ^ suc w → (bs : List ℕ) → length bs ≡ suc w → formed 45 32 bs ≡ true → between lo hi (minus bs) (val 0 bs) ≡ true
+unfolding between
+form-between w lo hi p q bs n h =
+    cases (minus bs)
+    (λ m. let less : length bs - 1 ≡ w = omega arith in
+    rw m (of≤ (omega (arith, subst (λ k. val 0 bs < 10 ^ k) less (minus-lt bs (sym (height-form bs) ∙ h) m)))))
+    (λ m. rw m (of≤ (omega (arith, subst (λ k. val 0 bs < 10 ^ k) n (form-lt 45 bs (omega arith) h)))))
+
+module _ (lo hi : ℕ) (may : Bool) (bs : List ℕ) where
+  height-fits : formed 45 32 bs ≡ true → fits (height (length bs) lo hi may) (valueOf (height (length bs) lo hi may) bs) ≡ cond (all isBlank bs) may (between lo hi (minus bs) (val 0 bs))
   unfolding valueOf
   height-fits h =
       cases (all isBlank bs) (λ e. rw e (unfold fits onNumber in refl))
       (λ e. rw e
       (cases (minus bs)
-      (λ m. rw m (down (length bs) may (val 0 bs) (some bs e) (minus-lt bs (sym (height-form bs) ∙ h) m)))
-      (λ m. rw m (up (length bs) may (val 0 bs) (some bs e) (form-lt 45 bs (omega arith) h)))))
+      (λ m. rw m (held-below (length bs) lo hi may (val 0 bs) (some bs e) (minus-lt bs (sym (height-form bs) ∙ h) m)))
+      (λ m. rw m (held-above (length bs) lo hi may (val 0 bs) (some bs e) (form-lt 45 bs (omega arith) h)))))
 
-  pub height-good : {f : Bool} {l : ℕ} → f ≡ formed 45 32 bs → l ≡ lastOf bs → (f && (may || not (eqb l 32))) ≡ good (height (length bs) may) bs
+  pub height-good : {f t : Bool} {l : ℕ} → f ≡ formed 45 32 bs → l ≡ lastOf bs → t ≡ between lo hi (minus bs) (val 0 bs) → (f && (eqb l 32 && may || not (eqb l 32) && t)) ≡ good (height (length bs) lo hi may) bs
   unfolding good width shape
-  height-good d e =
-      rw (same-size bs, d, e, ← height-form bs)
+  height-good d e k =
+      rw (same-size bs, d, e, k, ← height-form bs)
       (cases (formed 45 32 bs)
-      (λ h. rw (height-fits h) (unfold _&_ in rw h (unfold _=?_ in rw (last-tells 45 bs h) (pick (all isBlank bs)))))
+      (λ h. rw (height-fits h) (unfold _&_ in rw h (unfold _=?_ in rw (last-tells 45 bs h) (pick _ (all isBlank bs)))))
       (λ h. unfold _&_ in rw h))
     where
-      pick : (z : Bool) → (may || not z) ≡ cond z may true
-      pick true = or-false may
-      pick false = or-true may
+      pick : (t z : Bool) → (z && may || not z && t) ≡ cond z may t
+      pick t true = or-false may
+      pick t false = refl

@@ -11,6 +11,7 @@ use Rattle.rules.specs.Characters.{isBlank, ascii}
 use Rattle.rules.specs.Digits.{put}
 use Rattle.rules.specs.Items as items
 use Rattle.rules.specs.Items.{Item, Value, number, height, angle, month, media, num, signed, latitude, longitude, top, low, onNumber, width, valueOf, fits, render}
+use Rattle.rules.specs.Layouts.{correlation}
 use Rattle.rules.proofs.Truth.{of≤, of≡}
 use Rattle.rules.proofs.Lawful.{lawful}
 use Rattle.columns.specs.Types.{wayOf, countOf, countValue, heightOf, heightValue, natOf, intOf, mediaOf, mediaValue, four, fourOf}
@@ -44,54 +45,87 @@ split-long-back (negsuc n) = refl
 -- ---- heights, in w columns
 -- what read_height gives of columns
 abbrev pub heightRead : List ℕ → Height
-heightRead bs = cond (length bs ≤? 7) (heightOf (valueOf (height 0 true) bs)) Height.Missing
+heightRead bs = cond (length bs ≤? 7) (heightOf (valueOf (height 0 0 0 true) bs)) Height.Missing
 
 pub height-same : (h : Height) → heightOf (heightValue h) ≡ h
 unfolding heightOf heightValue
 height-same Height.Missing = refl
 height-same (Height.Mm z) = refl
 
-any-width : (w : ℕ) (bs : List ℕ) → valueOf (height 0 true) bs ≡ valueOf (height w true) bs
+-- neither the width nor the range has a say in the value or in its house style
+any-height : (w lo hi : ℕ) (may : Bool) (bs : List ℕ) → valueOf (height 0 0 0 true) bs ≡ valueOf (height w lo hi may) bs
 unfolding valueOf
-any-width w bs = refl
+any-height w lo hi may bs = refl
 
-no-column : (h : Height) → fits (height 0 true) (heightValue h) ≡ true → Height.Missing ≡ h
+any-range : (w lo hi : ℕ) (may : Bool) (v : Value) → render (height w 0 0 true) v ≡ render (height w lo hi may) v
+unfolding render
+any-range w lo hi may v = refl
+
+width-is : (w lo hi : ℕ) (may : Bool) → width (height w lo hi may) ≡ w
+unfolding width
+width-is w lo hi may = refl
+
+no-column : (lo hi : ℕ) (h : Height) → fits (height 0 lo hi true) (heightValue h) ≡ true → Height.Missing ≡ h
 unfolding fits onNumber heightValue _&_ _≤?_
-no-column Height.Missing f = refl
-no-column (Height.Mm (pos n)) f = absurd (false≢true f)
-no-column (Height.Mm (negsuc n)) f = absurd (false≢true f)
+no-column lo hi Height.Missing f = refl
+no-column lo hi (Height.Mm (pos n)) f = absurd (false≢true f)
+no-column lo hi (Height.Mm (negsuc n)) f = absurd (false≢true f)
 
 nothing-read : heightRead [] ≡ Height.Missing
 unfolding heightOf valueOf all
 nothing-read = rw (of≤ {m = 0} {n = 7} (omega arith))
 
-pub height-back : (w : ℕ) (h : Height) → w ≤ 7 → fits (height w true) (heightValue h) ≡ true → heightRead (heightColumns w h) ≡ h
+pub height-back : (w lo hi : ℕ) (h : Height) → w ≤ 7 → fits (height w lo hi true) (heightValue h) ≡ true → heightRead (heightColumns w h) ≡ h
 unfolding heightColumns
-height-back zero h l f = nothing-read ∙ no-column h f
-height-back (suc w) h l f =
-    let st = lawful (height (suc w) true) (heightValue h) f in
-    let short : length (render (height (suc w) true) (heightValue h)) ≤ 7 = omega (arith, st .sized, width-is w) in
-    rw (of≤ short, any-width (suc w), st .valued) (height-same h)
-  where
-    width-is : (w : ℕ) → width (height (suc w) true) ≡ suc w
-    width-is w = unfold width in refl
+height-back zero lo hi h l f = nothing-read ∙ no-column lo hi h f
+height-back (suc w) lo hi h l f =
+    let st = lawful (height (suc w) lo hi true) (heightValue h) f in
+    let short : length (render (height (suc w) lo hi true) (heightValue h)) ≤ 7 = omega (arith, st .sized, width-is (suc w) lo hi true) in
+    rw (any-range (suc w) lo hi true (heightValue h), of≤ short, any-height (suc w) lo hi true, st .valued) (height-same h)
+
+-- the same of any signed number in w columns, where none is missing
+abbrev pub signedRead : List ℕ → ℤ
+signedRead bs = cond (length bs ≤? 16) (intOf (valueOf (height 0 0 0 true) bs)) (pos 0)
+
+pub signed-back : (w lo hi : ℕ) (z : ℤ) → 1 ≤ w → w ≤ 16 → fits (height w lo hi false) (num z) ≡ true → signedRead (heightColumns w (Height.Mm z)) ≡ z
+unfolding heightColumns heightValue
+signed-back zero lo hi z p l f = absurd (omega arith)
+signed-back (suc w) lo hi z p l f =
+    let st = lawful (height (suc w) lo hi false) (num z) f in
+    let short : length (render (height (suc w) lo hi false) (num z)) ≤ 16 = omega (arith, st .sized, width-is (suc w) lo hi false) in
+    rw (any-range (suc w) lo hi false (num z), of≤ short, any-height (suc w) lo hi false, st .valued) (unfold intOf in refl)
 
 -- the ends: -999,999, 0 and 9,999,999 in seven columns, and no further
 pub height-low : heightRead (heightColumns 7 (Height.Mm (negsuc 999_998))) ≡ Height.Mm (negsuc 999_998)
 unfolding fits onNumber heightValue _&_ _≤?_
-height-low = height-back 7 (Height.Mm (negsuc 999_998)) (omega arith) refl
+height-low = height-back 7 999_999 9_999_999 (Height.Mm (negsuc 999_998)) (omega arith) refl
 
 pub height-zero : heightRead (heightColumns 7 (Height.Mm (pos 0))) ≡ Height.Mm (pos 0)
 unfolding fits onNumber heightValue _&_ _≤?_
-height-zero = height-back 7 (Height.Mm (pos 0)) (omega arith) refl
+height-zero = height-back 7 999_999 9_999_999 (Height.Mm (pos 0)) (omega arith) refl
 
 pub height-high : heightRead (heightColumns 7 (Height.Mm (pos 9_999_999))) ≡ Height.Mm (pos 9_999_999)
 unfolding fits onNumber heightValue _&_ _≤?_
-height-high = height-back 7 (Height.Mm (pos 9_999_999)) (omega arith) refl
+height-high = height-back 7 999_999 9_999_999 (Height.Mm (pos 9_999_999)) (omega arith) refl
 
-pub height-ends : (fits (height 7 true) (num (negsuc 999_999)) ≡ false) × (fits (height 7 true) (num (pos 10_000_000)) ≡ false)
+pub height-ends : (fits (height 7 999_999 9_999_999 true) (num (negsuc 999_999)) ≡ false) × (fits (height 7 999_999 9_999_999 true) (num (pos 10_000_000)) ≡ false)
 unfolding fits onNumber _&_ _≤?_
 height-ends = (refl, refl)
+
+-- 02, T-03: -99,999,990, 0 and 99,999,999 in ten columns, and no further
+pub correlation-ends :
+    (signedRead (heightColumns 10 (Height.Mm (negsuc 99_999_989))) ≡ negsuc 99_999_989)
+    × (signedRead (heightColumns 10 (Height.Mm (pos 0))) ≡ pos 0)
+    × (signedRead (heightColumns 10 (Height.Mm (pos 99_999_999))) ≡ pos 99_999_999)
+    × (fits correlation (num (negsuc 99_999_990)) ≡ false) × (fits correlation (num (pos 100_000_000)) ≡ false)
+unfolding fits onNumber _&_ _≤?_
+correlation-ends = (
+  signed-back 10 99_999_990 99_999_999 (negsuc 99_999_989) (omega arith) (omega arith) refl,
+  signed-back 10 99_999_990 99_999_999 (pos 0) (omega arith) (omega arith) refl,
+  signed-back 10 99_999_990 99_999_999 (pos 99_999_999) (omega arith) (omega arith) refl,
+  refl,
+  refl,
+)
 
 -- half a metre below zero keeps its sign
 pub half-metre : (heightColumns 7 (Height.Mm (negsuc 499)) ≡ ascii "-000500") × (heightRead (ascii "-000500") ≡ Height.Mm (negsuc 499))

@@ -38,6 +38,7 @@ low Set.Digit = refl
 low Set.Printable = refl
 low Set.Title = refl
 low Set.Name = refl
+low Set.YesNo = refl
 low Set.YesNoOrSpace = refl
 
 -- ---- from 128 on
@@ -54,6 +55,7 @@ high Set.Digit b h = none 48 57 48 57 48 48 48 b (omega arith) (omega arith) (om
 high Set.Printable b h = none 32 126 32 126 32 32 32 b (omega arith) (omega arith) (omega arith) (omega arith) (omega arith)
 high Set.Title b h = none 65 90 39 57 32 61 92 b (omega arith) (omega arith) (omega arith) (omega arith) (omega arith)
 high Set.Name b h = none 65 90 39 57 32 61 61 b (omega arith) (omega arith) (omega arith) (omega arith) (omega arith)
+high Set.YesNo b h = none 89 89 78 78 89 89 89 b (omega arith) (omega arith) (omega arith) (omega arith) (omega arith)
 high Set.YesNoOrSpace b h = none 89 89 78 78 32 32 32 b (omega arith) (omega arith) (omega arith) (omega arith) (omega arith)
 
 -- whatever is of a set is printable, since a word of one column is

@@ -1,5 +1,5 @@
 -- What the writers leave: one law for each way through a function. Assumes nothing.
-use mathlib.Core.Path.{_≡_, refl, sym}
+use mathlib.Core.Path.{_≡_, refl, sym, _∙_}
 use mathlib.Core.Bool.{true, false}
 use mathlib.Core.List.{List, [], _∷_, append-nil}
 use Prim.Native.Nat.{ℕ, zero, suc, _-_, _≤_, _<_}
@@ -13,10 +13,10 @@ use Rattle.rules.specs.Digits.{put}
 use Rattle.rules.specs.Items.{Item, Value, number, month, num, onNumber, width, fits, render}
 use Rattle.rules.proofs.Truth.{of≡, cases, of≢}
 use Rattle.columns.specs.Types.{countValue, heightValue}
-use Rattle.columns.specs.Leaves.{splitOf, splitColumns, heightColumns, written}
+use Rattle.columns.specs.Leaves.{splitLongOf, splitColumns, heightColumns, written}
 use Rattle.columns.specs.declared.Count.{Count}
 use Rattle.columns.specs.declared.Height.{Height}
-use Rattle.columns.specs.declared.signs.Split.{Split}
+use Rattle.columns.specs.declared.signs.SplitLong.{SplitLong}
 use Rattle.columns.proofs.Loops.{suc-less-one}
 
 -- ---- a writer that leaves what it cannot write
@@ -52,18 +52,18 @@ module _ (w : ℕ) {x : Count} {new : List ℕ} where
   count-digits e h = rw e h
 
 -- ---- heights
-module _ (w : ℕ) {s : Split} {n : ℕ} {new : List ℕ} where
-  pub split-digits : s ≡ Split.Plus n → new ≡ put w n → new ≡ splitColumns w s
+module _ (w : ℕ) {s : SplitLong} {n : ℕ} {new : List ℕ} where
+  pub split-digits : s ≡ SplitLong.Plus n → new ≡ put w n → new ≡ splitColumns w s
   unfolding splitColumns
   split-digits e h = rw e h
 
-pub split-nothing : (f : List ℕ) {s : Split} {n : ℕ} → length f ≤ 0 → s ≡ Split.Minus n → f ≡ splitColumns (length f) s
+pub split-nothing : (f : List ℕ) {s : SplitLong} {n : ℕ} → length f ≤ 0 → s ≡ SplitLong.Minus n → f ≡ splitColumns (length f) s
 unfolding splitColumns
 split-nothing [] h e = rw e
 split-nothing (x ∷ xs) h e = absurd (omega arith)
 
 -- the digits stand after the first column
-pub split-minus : (f last : List ℕ) {s : Split} {n : ℕ} → 0 < length f → s ≡ Split.Minus n
+pub split-minus : (f last : List ℕ) {s : SplitLong} {n : ℕ} → 0 < length f → s ≡ SplitLong.Minus n
     → last ≡ put (length (midOf 1 (length f - 1) f)) n
     → set (putMid 1 (length f - 1) f last) 0 45 ≡ splitColumns (length f) s
 unfolding splitColumns
@@ -75,12 +75,15 @@ unfolding heightColumns render onNumber heightValue
 height-blanks zero e h = h
 height-blanks (suc w) e h = rw e h
 
-columns-split : (w : ℕ) (z : ℤ) → splitColumns w (splitOf z) ≡ heightColumns w (Height.Mm z)
+columns-split : (w : ℕ) (z : ℤ) → splitColumns w (splitLongOf z) ≡ heightColumns w (Height.Mm z)
 unfolding splitColumns heightColumns render onNumber heightValue put
 columns-split zero (pos n) = refl
 columns-split zero (negsuc n) = refl
 columns-split (suc w) (pos n) = refl
 columns-split (suc w) (negsuc n) = rw suc-less-one
 
-pub height-split : (w : ℕ) {x : Height} {z : ℤ} {s : Split} {new : List ℕ} → x ≡ Height.Mm z → s ≡ splitOf z → new ≡ splitColumns w s → new ≡ heightColumns w x
-height-split w {z = z} e k h = rw (h, k, e) (columns-split w z)
+pub signed-split : (w : ℕ) (z : ℤ) {y : ℤ} {s : SplitLong} {new : List ℕ} → s ≡ splitLongOf y → y ≡ z → new ≡ splitColumns w s → new ≡ heightColumns w (Height.Mm z)
+signed-split w z k e h = rw (h, k, e) (columns-split w z)
+
+pub height-signed : (w : ℕ) {x : Height} {z y : ℤ} {new : List ℕ} → x ≡ Height.Mm z → y ≡ z → new ≡ heightColumns w (Height.Mm y) → new ≡ heightColumns w x
+height-signed w e k h = h ∙ rw (k, e)

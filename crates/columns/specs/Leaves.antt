@@ -1,6 +1,6 @@
 -- What the parts of the work give.
 use mathlib.Core.Path.{_≡_}
-use mathlib.Core.Bool.{Bool, true, cond, not, _&&_, _||_}
+use mathlib.Core.Bool.{Bool, true, false, cond, not, _&&_, _||_}
 use mathlib.Core.List.{List, [], _∷_}
 use Prim.Native.Nat.{ℕ, zero, suc, _+_, _-_, _*_, _^_, _≤_}
 use lib.Dec.{leb, eqb}
@@ -39,6 +39,7 @@ rangesOf Set.Digit = ranges 48 57 48 57 48 48 48
 rangesOf Set.Printable = ranges 32 126 32 126 32 32 32
 rangesOf Set.Title = ranges 65 90 39 57 32 61 92
 rangesOf Set.Name = ranges 65 90 39 57 32 61 61
+rangesOf Set.YesNo = ranges 89 89 78 78 89 89 89
 rangesOf Set.YesNoOrSpace = ranges 89 89 78 78 32 32 32
 
 -- ---- numbers
@@ -65,19 +66,23 @@ splitLongOf (pos n) = SplitLong.Plus n
 splitLongOf (negsuc n) = SplitLong.Minus (suc n)
 
 -- ---- heights
-unfoldable pub splitFits : ℕ → Split → Bool
-splitFits w (Split.Plus n) = 1 ≤? w & suc n ≤? 10 ^ w
-splitFits w (Split.Minus n) = 1 ≤? w & suc n ≤? 10 ^ (w - 1)
+-- a number with its sign lies from -lo to hi
+unfoldable pub between : (lo hi : ℕ) → Bool → ℕ → Bool
+between lo hi negative n = n ≤? cond negative lo hi
 
-unfoldable pub splitColumns : ℕ → Split → List ℕ
-splitColumns w (Split.Plus n) = put w n
-splitColumns zero (Split.Minus n) = []
-splitColumns (suc w) (Split.Minus n) = 45 ∷ put w n
+unfoldable pub splitFits : (w lo hi : ℕ) → SplitLong → Bool
+splitFits w lo hi (SplitLong.Plus n) = 1 ≤? w & suc n ≤? 10 ^ w & between lo hi false n
+splitFits w lo hi (SplitLong.Minus n) = 1 ≤? w & suc n ≤? 10 ^ (w - 1) & between lo hi true n
+
+unfoldable pub splitColumns : ℕ → SplitLong → List ℕ
+splitColumns w (SplitLong.Plus n) = put w n
+splitColumns zero (SplitLong.Minus n) = []
+splitColumns (suc w) (SplitLong.Minus n) = 45 ∷ put w n
 
 -- a height in no columns is nothing, and else in house style
 unfoldable pub heightColumns : ℕ → Height → List ℕ
 heightColumns zero h = []
-heightColumns (suc w) h = render (height (suc w) true) (heightValue h)
+heightColumns (suc w) h = render (height (suc w) 0 0 true) (heightValue h)
 
 -- ---- angles
 abbrev pub limitsOf : Way → Limits

@@ -27,6 +27,7 @@ setOf Set.Digit = digit
 setOf Set.Printable = printable
 setOf Set.Title = title
 setOf Set.Name = name
+setOf Set.YesNo = only 89 or only 78
 setOf Set.YesNoOrSpace = only 89 or only 78 or space
 
 -- ---- heights

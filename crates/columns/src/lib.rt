@@ -49,5 +49,6 @@ pub enum Set {
     Printable,
     Title,
     Name,
+    YesNo,
     YesNoOrSpace,
 }

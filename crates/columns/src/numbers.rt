@@ -77,7 +77,7 @@ pub(crate) fn last_of(part: &[u8]) -> u8
     part[n - 1]
 }
 
-fn wide(n: u32) -> u64
+pub(crate) fn wide(n: u32) -> u64
     ensures { λ r. ⌜ r ≡ n ⌝ }
 {
     n as u64
@@ -132,12 +132,19 @@ pub(crate) fn has_room(n: u64, w: usize) -> bool
     n < power(w)
 }
 
+// A number that is not missing.
+pub fn number_fits(n: u64, width: usize, lo: u32, hi: u32) -> bool
+    ensures { λ r. ⌜ r ≡ fits (number width lo hi false) (num (pos n)) ⌝ }
+{
+    (1 <= width) & has_room(n, width) & ((wide(lo) <= n) & (n <= wide(hi)))
+}
+
 pub fn count_fits(c: Count, width: usize, lo: u32, hi: u32, may: bool) -> bool
     ensures { λ r. ⌜ r ≡ fits (number width lo hi may) (countValue c) ⌝ }
 {
     match c {
         Count::Missing => may,
-        Count::Is(n) => (1 <= width) & has_room(n as u64, width) & ((lo <= n) & (n <= hi)),
+        Count::Is(n) => number_fits(wide(n), width, lo, hi),
     }
 }
 

@@ -92,6 +92,7 @@ fn ranges_of(s: Set) -> Ranges
         Set::Printable => new_ranges(32, 126, 32, 126, 32, 32, 32),
         Set::Title => new_ranges(65, 90, 39, 57, 32, 61, 92),
         Set::Name => new_ranges(65, 90, 39, 57, 32, 61, 61),
+        Set::YesNo => new_ranges(89, 89, 78, 78, 89, 89, 89),
         Set::YesNoOrSpace => new_ranges(89, 89, 78, 78, 32, 32, 32),
     }
 }

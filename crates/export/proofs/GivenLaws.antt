@@ -7,8 +7,8 @@ use native.Mathlib.Omega.{arith}
 use lib.ListN.{length, getD, drop}
 use lib.IntN.{ℤ, pos, negsuc}
 use lib.Dec.{eqb}
-use mir.Syntax.{w64}
-use mir.Val.{toZ, ofZ}
+use mir.Syntax.{w32, w64}
+use mir.Val.{SFits, toZ, ofZ}
 use Rattle.rules.specs.Tests.{_=?_}
 use Rattle.rules.specs.Items.{Value, signed}
 use Rattle.rules.specs.Fields.{Verdict, ok, fault}
@@ -16,6 +16,7 @@ use Rattle.rules.specs.Records.{Meaning}
 use Rattle.rules.specs.Calls.{writeVerdict, writeOutput}
 use Rattle.rules.proofs.Truth.{of≤, of>, of≡, of≢}
 use Rattle.rules.proofs.Bounds.{write-bounds}
+use Rattle.columns.proofs.Signed.{widened}
 use Rattle.columns.specs.declared.signs.SplitLong.{SplitLong}
 use Rattle.columns.specs.Leaves.{splitLongOf}
 use Rattle.columns.specs.declared.Height.{Height}
@@ -44,7 +45,7 @@ use Rattle.kinds.specs.declared.Record.the-variants as R
 use Rattle.kinds.specs.declared.Written.{Written}
 use Rattle.kinds.specs.Values.{kindNumber, sequenceValue, meaningOf, writtenOf}
 use Rattle.answers.specs.Answers.{Small, faultWords, answered, touched}
-use Rattle.answers.specs.Given.{wordAt, heldOr, digitOf, millimetresOf, isLeast, heightOf, sequenceOf, characterAt, numberAt, twoAt, threeAt, fourAt, mediaAt, projectGiven, occupationGiven, measurementGiven, pointGiven, heightsGiven, recordsGiven, recordGiven, given, sequenceGiven, writtenWords, Noted}
+use Rattle.answers.specs.Given.{wordAt, heldOr, digitOf, signedOf, isLeast, heightOf, sequenceOf, characterAt, numberAt, twoAt, threeAt, fourAt, mediaAt, projectGiven, occupationGiven, measurementGiven, pointGiven, heightsGiven, networkGiven, localGiven, recordsGiven, recordGiven, given, sequenceGiven, writtenWords, Noted}
 use Rattle.export.proofs.AnswerLaws.{long-answer, long-touched}
 
 -- ---- one word
@@ -80,9 +81,9 @@ minus-is : (z : ℤ) (n : ℕ) → splitLongOf z ≡ SplitLong.Minus n → (m : 
 minus-is (pos m) n e = let y : _≡_ {A = ℕ} 0 1 = cc in clash y
 minus-is (negsuc m) n e = let q : suc m ≡ n = cc in (m, refl, q)
 
-depth-of : (z : ℤ) (n m : ℕ) → z ≡ negsuc m → suc m ≡ n → n ≤ 9_999_999 → signed true n ≡ millimetresOf z
-unfolding millimetresOf signed
-depth-of z n m p q h = rw (p, ← q, of≤ {m = suc m} {n = 9_999_999} (omega arith))
+depth-of : (z : ℤ) (n m : ℕ) → z ≡ negsuc m → suc m ≡ n → n ≤ 99_999_999 → signed true n ≡ signedOf z
+unfolding signedOf signed
+depth-of z n m p q h = rw (p, ← q, of≤ {m = suc m} {n = 99_999_999} (omega arith))
 
 least-of : (z : ℤ) (n m : ℕ) → z ≡ negsuc m → suc m ≡ n → eqb n 9_223_372_036_854_775_808 ≡ isLeast z
 unfolding isLeast _=?_
@@ -107,20 +108,20 @@ module _ (z : ℤ) (s : SplitLong) (e : s ≡ splitLongOf z) (n : ℕ) where
   unfolding heldOr
   held-below most other p = rw (below-0 p .1)
 
-  pub millimetres-fit : s ≡ SplitLong.Plus n → n ≤ 9_999_999 → (r : ℤ) → r ≡ signed false n → r ≡ millimetresOf z
-  unfolding millimetresOf signed
-  millimetres-fit p h r q = q ∙ rw (at-least-0 p, of≤ {m = n} {n = 9_999_999} h)
+  pub millimetres-fit : s ≡ SplitLong.Plus n → n ≤ 99_999_999 → (r : ℤ) → r ≡ signed false n → r ≡ signedOf z
+  unfolding signedOf signed
+  millimetres-fit p h r q = q ∙ rw (at-least-0 p, of≤ {m = n} {n = 99_999_999} h)
 
-  pub millimetres-large : s ≡ SplitLong.Plus n → 9_999_999 < n → pos 10_000_000 ≡ millimetresOf z
-  unfolding millimetresOf
-  millimetres-large p h = rw (at-least-0 p, of> {m = n} {n = 9_999_999} h)
+  pub millimetres-large : s ≡ SplitLong.Plus n → 99_999_999 < n → pos 100_000_000 ≡ signedOf z
+  unfolding signedOf
+  millimetres-large p h = rw (at-least-0 p, of> {m = n} {n = 99_999_999} h)
 
-  pub depths-fit : s ≡ SplitLong.Minus n → n ≤ 9_999_999 → (r : ℤ) → r ≡ signed true n → r ≡ millimetresOf z
+  pub depths-fit : s ≡ SplitLong.Minus n → n ≤ 99_999_999 → (r : ℤ) → r ≡ signed true n → r ≡ signedOf z
   depths-fit p h r q = let b = below-0 p in q ∙ depth-of z n (b .0) (b .1) (b .2) h
 
-  pub depths-large : s ≡ SplitLong.Minus n → 9_999_999 < n → pos 10_000_000 ≡ millimetresOf z
-  unfolding millimetresOf
-  depths-large p h = let b = below-0 p in rw (b .1, of> {m = suc (b .0)} {n = 9_999_999} (omega (arith, b .2)))
+  pub depths-large : s ≡ SplitLong.Minus n → 99_999_999 < n → pos 100_000_000 ≡ signedOf z
+  unfolding signedOf
+  depths-large p h = let b = below-0 p in rw (b .1, of> {m = suc (b .0)} {n = 99_999_999} (omega (arith, b .2)))
 
   pub not-least : s ≡ SplitLong.Plus n → false ≡ isLeast z
   unfolding isLeast
@@ -150,7 +151,7 @@ module _ (z : ℤ) (t : Bool) (e : t ≡ isLeast z) where
   unfolding heightOf
   height-none h = rw (sym e ∙ h)
 
-  pub height-some : t ≡ false → (m : ℤ) → m ≡ millimetresOf z → Height.Mm m ≡ heightOf z
+  pub height-some : t ≡ false → (m : ℤ) → m ≡ signedOf z → Height.Mm m ≡ heightOf z
   unfolding heightOf
   height-some h m q = rw (sym e ∙ h, q)
 
@@ -190,7 +191,7 @@ pub occupation-given : (ws : List ℤ) (a : ℕ) (m : Media) (s : Three) (b : �
 unfolding occupationGiven
 occupation-given ws a m s b d r h0 h1 h2 h3 h4 e = e ∙ rw (h0, h1, h2, h3, h4)
 
-pub measurement-given : (ws : List ℤ) (a : ℕ) (b : ℕ) (d : ℕ) (z : ℤ) (r : Measurement) → a ≡ numberAt ws 2 → b ≡ numberAt ws 3 → d ≡ numberAt ws 4 → z ≡ millimetresOf (wordAt ws 5)
+pub measurement-given : (ws : List ℤ) (a : ℕ) (b : ℕ) (d : ℕ) (z : ℤ) (r : Measurement) → a ≡ numberAt ws 2 → b ≡ numberAt ws 3 → d ≡ numberAt ws 4 → z ≡ signedOf (wordAt ws 5)
     → r ≡ record { station = a; date = b; time = d; height = z } → r ≡ measurementGiven ws
 unfolding measurementGiven
 measurement-given ws a b d z r h0 h1 h2 h3 e = e ∙ rw (h0, h1, h2, h3)
@@ -204,6 +205,19 @@ pub heights-given : (ws : List ℤ) (a : ℕ) (b : Height) (d : ℕ) (f : Two) (
     → r ≡ record { station = a; orthometric = b; code = d; class = f; indicator = g; datum = i; geoid = j; geoidcode = k; ellipsoid = l; ellipsoidcode = m; ellipsoiddatum = n } → r ≡ heightsGiven ws
 unfolding heightsGiven
 heights-given ws a b d f g i j k l m n r h0 h1 h2 h3 h4 h5 h6 h7 h8 h9 h10 e = e ∙ rw (h0, h1, h2, h3, h4, h5, h6, h7, h8, h9, h10)
+
+pub network-given : (ws : List ℤ) (a b d : ℕ) (z : ℤ) (g h : ℕ) (r : Network) → a ≡ numberAt ws 2 → b ≡ numberAt ws 3 → d ≡ numberAt ws 4 → z ≡ signedOf (wordAt ws 5) → g ≡ numberAt ws 6 → h ≡ characterAt ws 7
+    → r ≡ record { station = a; north = b; east = d; correlation = z; ellipsoid = g; scaled = h } → r ≡ networkGiven ws
+unfolding networkGiven
+network-given ws a b d z g h r h0 h1 h2 h3 h4 h5 e = e ∙ rw (h0, h1, h2, h3, h4, h5)
+
+pub local-given : (ws : List ℤ) (a f b d : ℕ) (z : ℤ) (g h : ℕ) (r : Local) → a ≡ numberAt ws 2 → f ≡ numberAt ws 3 → b ≡ numberAt ws 4 → d ≡ numberAt ws 5 → z ≡ signedOf (wordAt ws 6) → g ≡ numberAt ws 7 → h ≡ characterAt ws 8
+    → r ≡ record { standpoint = a; forepoint = f; north = b; east = d; correlation = z; ellipsoid = g; scaled = h } → r ≡ localGiven ws
+unfolding localGiven
+local-given ws a f b d z g h r h0 h1 h2 h3 h4 h5 h6 e = e ∙ rw (h0, h1, h2, h3, h4, h5, h6)
+
+pub correlation-given : (z y : ℤ) → SFits w32 y → y ≡ signedOf z → toZ w64 (ofZ w64 (toZ w32 (ofZ w32 y))) ≡ signedOf z
+correlation-given z y f e = widened y f ∙ e
 
 -- ---- any record, by its kind
 module _ (k : ℕ) (ws : List ℤ) where
@@ -242,17 +256,17 @@ module _ (k : ℕ) (ws : List ℤ) where
   unfolding recordGiven recordsGiven
   given-heights l h r q = kind-is 10 (omega arith) (R.Heights r) (rw q)
 
-  pub given-network : 11 ≤ k → k < 12 → (r : Network) → r ≡ record {} → R.Network r ≡ recordGiven k ws
+  pub given-network : 11 ≤ k → k < 12 → (r : Network) → r ≡ networkGiven ws → R.Network r ≡ recordGiven k ws
   unfolding recordGiven recordsGiven
   given-network l h r q = kind-is 11 (omega arith) (R.Network r) (rw q)
 
-  pub given-local : 12 ≤ k → k < 13 → (r : Local) → r ≡ record {} → R.Local r ≡ recordGiven k ws
+  pub given-local : 12 ≤ k → k < 13 → (r : Local) → r ≡ localGiven ws → R.Local r ≡ recordGiven k ws
   unfolding recordGiven recordsGiven
   given-local l h r q = kind-is 12 (omega arith) (R.Local r) (rw q)
 
-  pub given-factor : 13 ≤ k → k < 14 → (r : Factor) → r ≡ record {} → R.Factor r ≡ recordGiven k ws
+  pub given-factor : 13 ≤ k → k < 14 → (a b : ℕ) (r : Factor) → a ≡ numberAt ws 2 → b ≡ numberAt ws 3 → r ≡ record { horizontal = a; vertical = b } → R.Factor r ≡ recordGiven k ws
   unfolding recordGiven recordsGiven
-  given-factor l h r q = kind-is 13 (omega arith) (R.Factor r) (rw q)
+  given-factor l h a b r p q e = kind-is 13 (omega arith) (R.Factor r) (rw (e, p, q))
 
   pub given-job : k < 1 → (a b : ℕ) (r : Job) → a ≡ characterAt ws 2 → b ≡ characterAt ws 3 → r ≡ record { first = a; second = b } → R.Job r ≡ recordGiven k ws
   unfolding recordGiven recordsGiven

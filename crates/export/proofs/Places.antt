@@ -1,27 +1,40 @@
--- The record and the column of a fault fit words: by the bounds of faults, and a record that read is asked for by its own width.
-use mathlib.Core.Path.{_≡_, refl, sym, _∙_}
-use mathlib.Core.Bool.{Bool}
-use mathlib.Core.List.{List}
-use Prim.Native.Nat.{ℕ, _<_, _^_}
+-- The record and the column of a fault fit words: by the bounds of faults, and a record that read is asked for by its own width; so do the standard deviations of a record that reads.
+use mathlib.Core.Path.{_≡_, refl, sym, _∙_, subst}
+use mathlib.Core.Bool.{Bool, true, false≢true}
+use mathlib.Core.List.{List, [], _∷_}
+use Prim.Native.Nat.{ℕ, zero, suc, _-_, _<_, _^_}
 use native.Mathlib.Omega.{arith}
-use lib.ListN.{length}
-use Rattle.rules.specs.Records.{Meaning}
-use Rattle.rules.specs.Files.{Result, accept, refuse, meanings}
+use lib.Dec.{lit≤}
+use lib.IntN.{pos, negsuc}
+use lib.ListN.{length, getD}
+use Rattle.rules.specs.Tests.{_&_, _≤?_, within, all}
+use Rattle.rules.specs.Items.{Value, gap, missing, num, text, label, fits, onNumber}
+use Rattle.rules.specs.Fields.{Field, Verdict, ok, fault, isOk, given, entriesOf, isFormed, formed}
+use Rattle.rules.specs.Kinds.{kindOf, known}
+use Rattle.rules.specs.Layouts.{at, deviation, network, local, kept, layouts, layout}
+use Rattle.rules.specs.Records.{Meaning, readLine, meaning, told, meant}
+use Rattle.rules.specs.Files.{Result, accept, refuse, lineAt, begun, meanings}
 use Rattle.rules.specs.References.{tally, counts}
 use Rattle.rules.specs.Chapter4.{chapter4}
-use Rattle.rules.specs.Calls.{outcome, answer, bigTable, checkAnswer, rewriteRoom, rewriteAnswer, Reading, values, unread, readOf}
+use Rattle.rules.specs.Calls.{outcome, answer, bigTable, checkAnswer, rewriteRoom, rewriteAnswer, Reading, values, unread, readAs, readOf}
 use Rattle.rules.specs.Padding.{padAnswer, padOutput}
+use Rattle.rules.proofs.Truth.{both, and, to≤, of≤, to≡, cases, to-within}
+use Rattle.rules.proofs.RecordLaws.{readLine-splits, line-meant}
 use Rattle.rules.proofs.ReferenceLaws.{length-tabulate}
 use Rattle.rules.proofs.Bounds.{answer-bounded, unread-bounds}
 use Rattle.kinds.specs.declared.Checked.{Checked}
 use Rattle.kinds.specs.declared.Fault.{Fault}
+use Rattle.columns.specs.Types.{natOf}
+use Rattle.kinds.specs.declared.Sequence.{Sequence}
+use Rattle.kinds.specs.declared.Record.{Record}
 use Rattle.kinds.specs.declared.Reading as kinds
-use Rattle.kinds.specs.Values.{checkedOf, readingOf}
+use Rattle.kinds.specs.Values.{checkedOf, recordFrom, recordOf, readingOf}
+use Rattle.kinds.proofs.TableLaws.{each-kind}
 use Rattle.padding.specs.declared.Padded.{Padded}
 use Rattle.padding.specs.Promise.{paddedOf}
 use Rattle.padding.proofs.PadDemands.{demand-1-pad}
 use Rattle.answers.specs.Answers.{Small, Counted}
-use Rattle.answers.specs.Words.{Told}
+use Rattle.answers.specs.Words.{deviationsOf, inRange, Told}
 
 -- ---- check and rewrite
 fourteen : (v : Result) (ms : List Meaning) → length (answer v ms .counts) ≡ 14
@@ -59,5 +72,64 @@ told-of f r h (unread n p c) e g z =
     let y : c ≡ g .column = cc in
     record { place = omega (arith, unread-bounds f r n p c e); spot = omega (arith, unread-bounds f r n p c e) }
 
+-- a value of a formed record fits its field
+field-fits : (fs : List Field) (vs : List Value) (i : ℕ) (d : Field) → length vs ≡ length fs → formed (entriesOf fs vs) ≡ true → i < length fs → fits (getD fs i d .item) (getD vs i gap) ≡ true
+unfolding formed all isFormed entriesOf given
+field-fits [] vs i d n h k = absurd (omega arith)
+field-fits (f ∷ fs) [] i d n h k = absurd (omega (arith, n))
+field-fits (f ∷ fs) (v ∷ vs) zero d n h k = both h .0
+field-fits (f ∷ fs) (v ∷ vs) (suc i) d n h k = field-fits fs vs i d (omega (arith, n)) (both h .1) (omega arith)
+
+deviation-most : (v : Value) → fits deviation v ≡ true → natOf v ≤? 999_999_999 ≡ true
+unfolding fits onNumber natOf
+deviation-most gap h = absurd (false≢true h)
+deviation-most missing h = absurd (false≢true h)
+deviation-most (num (pos n)) h = of≤ (to-within (both h .1) .1)
+deviation-most (num (negsuc n)) h = absurd (false≢true h)
+deviation-most (text t) h = absurd (false≢true h)
+deviation-most (label m d y s t) h = absurd (false≢true h)
+
+-- so the standard deviations of a record that is meant are in their range
+module _ (c : List ℕ) (vs : List Value) where
+  abbrev Ranged : ℕ → Type 0
+  Ranged k = length vs ≡ length (getD layouts k kept) → formed (entriesOf (getD layouts k kept) vs) ≡ true → inRange (recordFrom k c (λ i. getD vs i gap)) ≡ true
+
+  three-ranged : (i j k : ℕ) (fs : List Field) → length vs ≡ length fs → formed (entriesOf fs vs) ≡ true → i < length fs → j < length fs → k < length fs
+      → getD fs i (at 0 deviation) .item ≡ deviation → getD fs j (at 0 deviation) .item ≡ deviation → getD fs k (at 0 deviation) .item ≡ deviation
+      → all (λ n. n ≤? 999_999_999) (natOf (getD vs i gap) ∷ natOf (getD vs j gap) ∷ natOf (getD vs k gap) ∷ []) ≡ true
+  unfolding all
+  three-ranged i j k fs n h a b d p q r =
+      and (deviation-most _ (rw p at (field-fits fs vs i (at 0 deviation) n h a)))
+      (and (deviation-most _ (rw q at (field-fits fs vs j (at 0 deviation) n h b))) (and (deviation-most _ (rw r at (field-fits fs vs k (at 0 deviation) n h d))) refl))
+
+  ranged : (k : ℕ) → k < 14 → Ranged k
+  unfolding inRange deviationsOf recordFrom layouts all
+  ranged = each-kind Ranged (λ n h. refl) (λ n h. refl) (λ n h. refl) (λ n h. refl) (λ n h. refl) (λ n h. refl) (λ n h. refl) (λ n h. refl) (λ n h. refl) (λ n h. refl) (λ n h. refl)
+      (λ n h. three-ranged 2 3 5 network n h (lit≤ tt) (lit≤ tt) (lit≤ tt) refl refl refl)
+      (λ n h. three-ranged 4 5 7 local n h (lit≤ tt) (lit≤ tt) (lit≤ tt) refl refl refl)
+      (λ n h. refl)
+
+record-ranged : (m : Meaning) → meant chapter4 m ≡ true → inRange (recordOf m) ≡ true
+unfolding meant told known recordOf layout
+record-ranged m h = ranged (m .code) (m .values) (kindOf (m .code)) (omega (arith, to≤ (both h .0))) (to≡ (both (both h .1) .0)) (both (both h .1) .1)
+
+held-as : (n : ℕ) (l : List ℕ) (v : Verdict) → v ≡ readLine chapter4 l → (s : Sequence) (w : Record) → readingOf (readAs n l v) ≡ kinds.Reading.Values s w → inRange w ≡ true
+unfolding readAs readingOf
+held-as n l ok e s w z =
+    let same : recordOf (meaning chapter4 l) ≡ w = cc in
+    let reads : isOk (readLine chapter4 l) ≡ true = rw (← e) (unfold isOk in refl) in
+    subst (λ r. inRange r ≡ true) same (record-ranged (meaning chapter4 l) (line-meant chapter4 l (both (sym (readLine-splits chapter4 l) ∙ reads) .0)))
+held-as n l (fault a b) e s w z = let x : _≡_ {A = ℕ} 0 1 = cc in absurd (omega arith)
+
+held-of : (f : List ℕ) (r : ℕ) (s : Sequence) (w : Record) → readingOf (readOf f r) ≡ kinds.Reading.Values s w → inRange w ≡ true
+unfolding readOf
+held-of f r s w z =
+    cases (within 1 99_999 r & r ≤? begun f)
+    (λ h. held-as r (lineAt f (r - 1)) (readLine chapter4 (lineAt f (r - 1))) refl s w (rw h at z))
+    (λ h. none s w (rw h at z))
+  where
+    none : (s : Sequence) (w : Record) → readingOf (unread 13 r 0) ≡ kinds.Reading.Values s w → inRange w ≡ true
+    none s w z = unfold readingOf in let x : _≡_ {A = ℕ} 0 1 = cc in absurd (omega arith)
+
 pub read-told : (f : List ℕ) (r : ℕ) (x : kinds.Reading) → r < 2 ^ 32 → x ≡ readingOf (readOf f r) → Told x
-read-told f r x h e = record { small = λ g z. told-of f r h (readOf f r) refl g (sym e ∙ z) }
+read-told f r x h e = record { small = λ g z. told-of f r h (readOf f r) refl g (sym e ∙ z); held = λ s w z. held-of f r s w (sym e ∙ z) }

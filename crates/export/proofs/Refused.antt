@@ -15,7 +15,7 @@ use Rattle.rules.specs.Kinds.{kindOf, known}
 use Rattle.rules.specs.Layouts.{at, kept, layouts, layout}
 use Rattle.rules.specs.Calls.{writeVerdict, writeOutput}
 use Rattle.rules.specs.Chapter4.{chapter4}
-use Rattle.rules.proofs.Truth.{both, to≤, to≡, no≤, of>, of≤, cases, all-getD, and-false}
+use Rattle.rules.proofs.Truth.{both, to≤, to≡, no≤, of>, of≤, cases, not-true, all-getD, and-false}
 use Rattle.rules.proofs.FieldLaws.{⨾-assoc}
 use Rattle.rules.proofs.Chapter4Laws.{layout-covers}
 use Rattle.columns.specs.Types.{heightValue, mediaValue, fourOf}
@@ -24,30 +24,26 @@ use Rattle.kinds.specs.Values.{twoText, threeText, kindNumber, codeOf, valuesOf
 use Rattle.kinds.proofs.ValueLaws.{code-kind}
 use Rattle.kinds.proofs.TableLaws.{each-kind}
 use Rattle.answers.specs.Answers.{answered, touched, faultWords}
-use Rattle.answers.specs.Given.{wordAt, heldOr, millimetresOf, isLeast, heightOf, sequenceOf, characterAt, numberAt, twoAt, threeAt, fourAt, mediaAt, projectGiven, occupationGiven, measurementGiven, pointGiven, heightsGiven, recordsGiven, recordGiven, writtenWords}
+use Rattle.answers.specs.Given.{wordAt, heldOr, signedOf, isLeast, heightOf, sequenceOf, characterAt, numberAt, twoAt, threeAt, fourAt, mediaAt, projectGiven, occupationGiven, measurementGiven, pointGiven, heightsGiven, networkGiven, localGiven, recordsGiven, recordGiven, writtenWords}
 use Rattle.answers.specs.Given as words
-use Rattle.answers.specs.Held.{wordCount, noField, wordFrom, isHeld, holdsNumber, holdsSequence, holdsMillimetres, holdsCharacters, holds, leftOfCode, leftOfField}
+use Rattle.answers.specs.Held.{wordCount, noField, wordFrom, isHeld, holdsNumber, holdsSequence, holdsSigned, holdsCharacters, holds, leftOfCode, leftOfField}
 use Rattle.answers.specs.Promise.{wordsVerdict, wordsOutput, Writes}
 use Rattle.export.proofs.GivenLaws.{word-lacking, given-none}
 use Rattle.export.proofs.Unheld.{refuses, layouts-refuse, kept-refuses, sequence-refuses, media-maker, media-day, media-year, media-session, first-unknown, second-unknown}
 
 -- ---- one word that its type does not hold
-not-is : (b : Bool) → not b ≡ true → b ≡ false
-not-is true h = absurd (false≢true h)
-not-is false h = refl
-
 held-other : (most other : ℕ) (z : ℤ) → isHeld most z ≡ false → heldOr most other z ≡ other
 unfolding isHeld heldOr
 held-other most other (pos n) h = rw h
 held-other most other (negsuc n) h = refl
 
-far-other : (z : ℤ) → holdsMillimetres z ≡ false → millimetresOf z ≡ pos 10_000_000
-unfolding holdsMillimetres millimetresOf
+far-other : (z : ℤ) → holdsSigned z ≡ false → signedOf z ≡ pos 100_000_000
+unfolding holdsSigned signedOf
 far-other (pos n) h = rw h
 far-other (negsuc n) h = rw h
 
-least-far : (z : ℤ) → isLeast z ≡ true → holdsMillimetres z ≡ false
-unfolding isLeast holdsMillimetres
+least-far : (z : ℤ) → isLeast z ≡ true → holdsSigned z ≡ false
+unfolding isLeast holdsSigned
 least-far (pos n) h = absurd (false≢true h)
 least-far (negsuc n) h = of> (omega (arith, to≡ h))
 
@@ -66,7 +62,7 @@ unfoldable takenAs : Item → List ℤ → ℕ → List (List ℕ) → Value
 takenAs (blank w) ws p ts = gap
 takenAs (constant c) ws p ts = gap
 takenAs (number w lo hi may) ws p ts = num (pos (numberAt ws p))
-takenAs (height w may) ws p ts = cond may (heightValue (heightOf (wordAt ws p))) (num (millimetresOf (wordAt ws p)))
+takenAs (height w lo hi may) ws p ts = cond may (heightValue (heightOf (wordAt ws p))) (num (signedOf (wordAt ws p)))
 takenAs (angle way) ws p ts = num (wordAt ws p)
 takenAs month ws p ts = num (pos (numberAt ws p))
 takenAs media ws p ts = mediaValue (mediaAt ws p)
@@ -76,7 +72,7 @@ unfoldable textsAfter : Item → List (List ℕ) → List (List ℕ)
 textsAfter (blank w) ts = ts
 textsAfter (constant c) ts = ts
 textsAfter (number w lo hi may) ts = ts
-textsAfter (height w may) ts = ts
+textsAfter (height w lo hi may) ts = ts
 textsAfter (angle way) ts = ts
 textsAfter month ts = ts
 textsAfter media ts = ts
@@ -90,7 +86,7 @@ abbrev Taken : List ℤ → (x y z : List ℕ) → ℕ → Type 0
 Taken ws x y z k = valuesOf (recordGiven k ws) x y z ≡ allTaken (getD layouts k kept) ws 2 (x ∷ y ∷ z ∷ [])
 
 values-taken : (ws : List ℤ) (x y z : List ℕ) (k : ℕ) → k < 14 → Taken ws x y z k
-unfolding recordGiven recordsGiven projectGiven occupationGiven measurementGiven pointGiven heightsGiven twoAt threeAt fourAt valuesOf twoText threeText fourOf allTaken takenAs textsAfter characters wordCount layouts _≤?_
+unfolding recordGiven recordsGiven projectGiven occupationGiven measurementGiven pointGiven heightsGiven networkGiven localGiven twoAt threeAt fourAt valuesOf twoText threeText fourOf allTaken takenAs textsAfter characters wordCount layouts _≤?_
 values-taken ws x y z = each-kind (Taken ws x y z) refl refl refl refl refl refl refl refl refl refl refl refl refl refl
 
 kind-taken : (ws : List ℤ) (k : ℕ) → k < 14 → kindNumber (recordGiven k ws) ≡ k
@@ -109,10 +105,10 @@ module _ (ws : List ℤ) where
 
   no-text : (w : ℕ) (t : Test) (p : ℕ) → refuses (word w t) ≡ true → holdsCharacters w ws p ≡ false → passes t (characters w ws p) ≡ false
   unfolding refuses passes
-  no-text w (each s) p r h = none-of (member s) (not-is _ r) w p h
+  no-text w (each s) p r h = none-of (member s) (not-true _ r) w p h
   no-text w (orBlank s) p r h =
       let e : isBlank 0 ≡ false = unfold isBlank _=?_ in refl in
-      rw (none-of isBlank e w p h, none-of (member s) (not-is _ r) w p h)
+      rw (none-of isBlank e w p h, none-of (member s) (not-true _ r) w p h)
 
   four-characters : (p : ℕ) → fourOf (fourAt ws p) ≡ characters 4 ws p
   unfolding fourOf fourAt characters
@@ -141,24 +137,24 @@ module _ (ws : List ℤ) where
       (λ a. rw (held-other 255 0 (wordAt ws (p + 3)) a) (media-session _ _ _ 0 _))
       (λ h. media-mark (p + 4) _ _ _ _ h))))
 
-  no-height : (w : ℕ) (may : Bool) (p : ℕ) (ts : List (List ℕ)) → refuses (height w may) ≡ true → holds (height w may) ws p ≡ false → fits (height w may) (takenAs (height w may) ws p ts) ≡ false
+  no-height : (w lo hi : ℕ) (may : Bool) (p : ℕ) (ts : List (List ℕ)) → refuses (height w lo hi may) ≡ true → holds (height w lo hi may) ws p ≡ false → fits (height w lo hi may) (takenAs (height w lo hi may) ws p ts) ≡ false
   unfolding refuses holds takenAs heightOf
-  no-height w true p ts r h =
+  no-height w lo hi true p ts r h =
       cases (isLeast (wordAt ws p))
       (λ e. absurd (false≢true (sym (rw e at h))))
-      (λ e. rw (e, far-other (wordAt ws p) (rw e at h)) (unfold heightValue in not-is _ r))
-  no-height w false p ts r h =
+      (λ e. rw (e, far-other (wordAt ws p) (rw e at h)) (unfold heightValue in not-true _ r))
+  no-height w lo hi false p ts r h =
       cases (isLeast (wordAt ws p))
-      (λ e. rw (far-other (wordAt ws p) (least-far (wordAt ws p) e)) (not-is _ r))
-      (λ e. rw (far-other (wordAt ws p) (rw e at h)) (not-is _ r))
+      (λ e. rw (far-other (wordAt ws p) (least-far (wordAt ws p) e)) (not-true _ r))
+      (λ e. rw (far-other (wordAt ws p) (rw e at h)) (not-true _ r))
 
   no-number : (i : Item) (p : ℕ) → not (fits i (num (pos 4_294_967_295))) ≡ true → holdsNumber ws p ≡ false → fits i (num (pos (numberAt ws p))) ≡ false
   unfolding holdsNumber
-  no-number i p r h = rw (held-other 4_294_967_294 4_294_967_295 (wordAt ws p) h) (not-is _ r)
+  no-number i p r h = rw (held-other 4_294_967_294 4_294_967_295 (wordAt ws p) h) (not-true _ r)
 
   no-angle : (way : Way) (p : ℕ) (ts : List (List ℕ)) → refuses (angle way) ≡ true → holds (angle way) ws p ≡ false → fits (angle way) (takenAs (angle way) ws p ts) ≡ false
   unfolding refuses holds takenAs
-  no-angle way p ts r h = let lacks : length ws ≤ p = omega (arith, no≤ h) in rw (← word-lacking ws p lacks) (not-is _ r)
+  no-angle way p ts r h = let lacks : length ws ≤ p = omega (arith, no≤ h) in rw (← word-lacking ws p lacks) (not-true _ r)
 
   no-word : (w : ℕ) (t : Test) (p : ℕ) (ts : List (List ℕ)) → refuses (word w t) ≡ true → holds (word w t) ws p ≡ false → fits (word w t) (takenAs (word w t) ws p ts) ≡ false
   unfolding holds takenAs fits onText
@@ -168,7 +164,7 @@ module _ (ws : List ℤ) where
   not-fitting (blank w) p ts r h = absurd (false≢true (sym (unfold holds in h)))
   not-fitting (constant c) p ts r h = absurd (false≢true (sym (unfold holds in h)))
   not-fitting (number w lo hi may) p ts r h = unfold takenAs in no-number (number w lo hi may) p (unfold refuses in r) (unfold holds in h)
-  not-fitting (height w may) p ts r h = no-height w may p ts r h
+  not-fitting (height w lo hi may) p ts r h = no-height w lo hi may p ts r h
   not-fitting (angle way) p ts r h = no-angle way p ts r h
   not-fitting month p ts r h = unfold takenAs in no-number month p (unfold refuses in r) (unfold holds in h)
   not-fitting media p ts r h = unfold takenAs in no-media p h
@@ -259,7 +255,7 @@ module _ (room : ℕ) (ws : List ℤ) (x y z : List ℕ) where
   pub sequence-refused : holdsSequence (wordAt ws 1) ≡ false → wordsVerdict room ws x y z ≡ check (81 ≤? room) 1 0 ⨾ fault 9 1
   unfolding wordsVerdict writeVerdict judgeGiven
   sequence-refused h =
-      let e : fits sequence (num (pos 4_294_967_295)) ≡ false = unfold sequence in not-is _ (unfold sequence refuses in sequence-refuses) in
+      let e : fits sequence (num (pos 4_294_967_295)) ≡ false = unfold sequence in not-true _ (unfold sequence refuses in sequence-refuses) in
       rw (sequence-other (wordAt ws 1) h, e) (unfold check _⨾_ in refl)
 
   parted : wordsVerdict room ws x y z ≡ leftOfCode room ws ⨾ (check (ofKind chapter4 (kindNumber (words.given ws)) whole) 9 7 ⨾ judge anything (told chapter4 whole))

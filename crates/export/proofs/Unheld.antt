@@ -17,7 +17,7 @@ unfoldable pub refuses : Item → Bool
 refuses (blank w) = true
 refuses (constant c) = true
 refuses (number w lo hi may) = not (fits (number w lo hi may) (num (pos 4_294_967_295)))
-refuses (height w may) = not (fits (height w may) (num (pos 10_000_000)))
+refuses (height w lo hi may) = not (fits (height w lo hi may) (num (pos 100_000_000)))
 refuses (angle way) = not (fits (angle way) (num (pos 9_223_372_036_854_775_807)))
 refuses month = not (fits month (num (pos 4_294_967_295)))
 refuses media = not (isPrintable 0)

@@ -1,5 +1,6 @@
 -- Values as words: each put after the other, a record's words are laid over what was there.
 use mathlib.Core.Path.{_≡_, refl, sym, _∙_, ap}
+use mathlib.Core.Bool.{true}
 use mathlib.Core.List.{List, [], _∷_, _++_, append-nil}
 use Prim.Native.Nat.{ℕ, zero, suc, _+_, _≤_, _<_, _^_}
 use native.Mathlib.Omega.{arith}
@@ -9,8 +10,10 @@ use lib.Seq.{set-out}
 use lib.IntN.{ℤ, pos, negsuc}
 use mir.Syntax.{w32, w64}
 use mir.Val.{SFits, toZ, ofZ}
-use mir.ValLaws.{toZ-ofZ, toZ-pos}
-use mir.Facts.{sfits-widen}
+use mir.ValLaws.{toZ-pos}
+use Rattle.columns.proofs.Signed.{widened}
+use Rattle.rules.specs.Tests.{all, _≤?_}
+use Rattle.rules.proofs.Truth.{both, to≤}
 use Rattle.columns.specs.declared.Height.{Height}
 use Rattle.columns.specs.declared.Four.{Four}
 use Rattle.columns.specs.declared.Media.{Media}
@@ -36,7 +39,7 @@ use Rattle.kinds.specs.declared.Record.{Record}
 use Rattle.kinds.specs.declared.Record.the-variants as R
 use Rattle.kinds.specs.declared.Reading.{Reading}
 use Rattle.kinds.specs.Values.{kindNumber}
-use Rattle.answers.specs.Words.{heightWord, sequenceWord, twoWords, threeWords, fourWords, mediaWords, projectWords, occupationWords, measurementWords, pointWords, heightsFirst, heightsWords, valueWords, padded, readWords, Told, laid}
+use Rattle.answers.specs.Words.{heightWord, sequenceWord, twoWords, threeWords, fourWords, mediaWords, projectWords, occupationWords, measurementWords, pointWords, heightsFirst, heightsWords, networkWords, localWords, valueWords, padded, readWords, deviationsOf, inRange, Told, laid}
 use Rattle.answers.specs.Answers.{Small, answered}
 use Rattle.export.proofs.AnswerLaws.{long-answer}
 
@@ -47,16 +50,13 @@ put-past w at z h = sym (set-out w at z h)
 pub put-word : (w : List ℤ) (at n : ℕ) → n < 2 ^ 32 → set w at (toZ w64 n) ≡ set w at (pos n)
 put-word w at n h = ap (set w at) (toZ-pos w64 n (omega arith))
 
-pub widens : (z : ℤ) → SFits w32 z → SFits w64 (toZ w32 (ofZ w32 z))
-widens z f = rw (toZ-ofZ w32 z f) (sfits-widen tt f)
-
 pub missing-word : (h : Height) → h ≡ Height.Missing → negsuc 9_223_372_036_854_775_807 ≡ heightWord h
 unfolding heightWord
 missing-word h e = rw e
 
 pub height-word : (h : Height) (z : ℤ) → SFits w32 z → h ≡ Height.Mm z → toZ w64 (ofZ w64 (toZ w32 (ofZ w32 z))) ≡ heightWord h
 unfolding heightWord
-height-word h z f e = rw e (ap (λ (y : ℤ). toZ w64 (ofZ w64 y)) (toZ-ofZ w32 z f) ∙ toZ-ofZ w64 z (sfits-widen tt f))
+height-word h z f e = rw e (widened z f)
 
 pub height-put : (h : Height) (z : ℤ) (at : ℕ) (w u : List ℤ) → z ≡ heightWord h → toZ w64 (ofZ w64 z) ≡ z → u ≡ set w at (toZ w64 (ofZ w64 z)) → u ≡ set w at (heightWord h)
 height-put h z at w u e b q = q ∙ rw (b, e)
@@ -141,6 +141,20 @@ module _ (w₀ w₁ w₂ : List ℤ) where
   unfolding laid heightsWords heightsFirst twoWords
   heights-laid r w₃ w₄ w₅ w₆ p q s t v x = rw (x, v, t, s, q, p)
 
+  pub network-laid : (r : Network) (w₃ w₄ w₅ w₆ : List ℤ) → w₁ ≡ set w₀ 5 (pos (r .station)) → w₂ ≡ set w₁ 6 (pos (r .north)) → w₃ ≡ set w₂ 7 (pos (r .east)) → w₄ ≡ set w₃ 8 (r .correlation)
+      → w₅ ≡ set w₄ 9 (pos (r .ellipsoid)) → w₆ ≡ set w₅ 10 (pos (r .scaled)) → w₆ ≡ laid 5 (networkWords r) w₀
+  unfolding laid networkWords
+  network-laid r w₃ w₄ w₅ w₆ p q s t v x = rw (x, v, t, s, q, p)
+
+  pub local-laid : (r : Local) (w₃ w₄ w₅ w₆ w₇ : List ℤ) → w₁ ≡ set w₀ 5 (pos (r .standpoint)) → w₂ ≡ set w₁ 6 (pos (r .forepoint)) → w₃ ≡ set w₂ 7 (pos (r .north)) → w₄ ≡ set w₃ 8 (pos (r .east))
+      → w₅ ≡ set w₄ 9 (r .correlation) → w₆ ≡ set w₅ 10 (pos (r .ellipsoid)) → w₇ ≡ set w₆ 11 (pos (r .scaled)) → w₇ ≡ laid 5 (localWords r) w₀
+  unfolding laid localWords
+  local-laid r w₃ w₄ w₅ w₆ w₇ p q s t v x y = rw (y, x, v, t, s, q, p)
+
+  pub factor-laid : (r : Factor) → w₁ ≡ set w₀ 5 (pos (r .horizontal)) → w₂ ≡ set w₁ 6 (pos (r .vertical)) → w₂ ≡ laid 5 (pos (r .horizontal) ∷ pos (r .vertical) ∷ []) w₀
+  unfolding laid
+  factor-laid r p q = rw (q, p)
+
   pub refusal-laid : (f : Fault) (w₃ w₄ : List ℤ) → w₁ ≡ set w₀ 0 (pos (f .number)) → w₂ ≡ set w₁ 1 (pos (f .«record»)) → w₃ ≡ set w₂ 2 (pos (f .column)) → w₄ ≡ set w₃ 3 (negsuc 0)
       → w₄ ≡ laid 0 (pos (f .number) ∷ pos (f .«record») ∷ pos (f .column) ∷ negsuc 0 ∷ []) w₀
   unfolding laid
@@ -185,6 +199,32 @@ module _ (what : Record) (w u : List ℤ) where
   unfolding valueWords
   record-heights r e q = q ∙ rw e
 
+  pub record-network : (r : Network) → what ≡ R.Network r → u ≡ laid 5 (networkWords r) w → u ≡ laid 5 (valueWords what) w
+  unfolding valueWords
+  record-network r e q = q ∙ rw e
+
+  pub record-local : (r : Local) → what ≡ R.Local r → u ≡ laid 5 (localWords r) w → u ≡ laid 5 (valueWords what) w
+  unfolding valueWords
+  record-local r e q = q ∙ rw e
+
+  pub record-factor : (r : Factor) → what ≡ R.Factor r → u ≡ laid 5 (pos (r .horizontal) ∷ pos (r .vertical) ∷ []) w → u ≡ laid 5 (valueWords what) w
+  unfolding valueWords
+  record-factor r e q = q ∙ rw e
+
+-- the standard deviations of a record that was read
+three-held : (a b c : ℕ) → all (λ n. n ≤? 999_999_999) (a ∷ b ∷ c ∷ []) ≡ true → (a ≤ 999_999_999) × (b ≤ 999_999_999) × (c ≤ 999_999_999)
+unfolding all
+three-held a b c h = (to≤ (both h .0), to≤ (both (both h .1) .0), to≤ (both (both (both h .1) .1) .0))
+
+module _ (what : Record) (h : inRange what ≡ true) where
+  pub network-held : (r : Network) → what ≡ R.Network r → (r .north ≤ 999_999_999) × (r .east ≤ 999_999_999) × (r .ellipsoid ≤ 999_999_999)
+  unfolding inRange deviationsOf
+  network-held r e = three-held (r .north) (r .east) (r .ellipsoid) (rw e at h)
+
+  pub local-held : (r : Local) → what ≡ R.Local r → (r .north ≤ 999_999_999) × (r .east ≤ 999_999_999) × (r .ellipsoid ≤ 999_999_999)
+  unfolding inRange deviationsOf
+  local-held r e = three-held (r .north) (r .east) (r .ellipsoid) (rw e at h)
+
 -- a kind with texts only has no words
 module _ (what : Record) (w : List ℤ) where
   pub record-title : (r : Title) → what ≡ R.Title r → w ≡ laid 5 (valueWords what) w
@@ -199,21 +239,9 @@ module _ (what : Record) (w : List ℤ) where
   unfolding valueWords laid
   record-comment r e = rw e
 
-  pub record-network : (r : Network) → what ≡ R.Network r → w ≡ laid 5 (valueWords what) w
-  unfolding valueWords laid
-  record-network r e = rw e
-
-  pub record-local : (r : Local) → what ≡ R.Local r → w ≡ laid 5 (valueWords what) w
-  unfolding valueWords laid
-  record-local r e = rw e
-
-  pub record-factor : (r : Factor) → what ≡ R.Factor r → w ≡ laid 5 (valueWords what) w
-  unfolding valueWords laid
-  record-factor r e = rw e
-
 -- ---- the whole answer
 pub words-read : (s : Sequence) (r : Record) → laid 3 (pos (kindNumber r) ∷ sequenceWord s ∷ valueWords r) (replicate 32 (pos 0)) ≡ readWords (Reading.Values s r)
-unfolding laid readWords padded valueWords projectWords occupationWords measurementWords pointWords heightsWords heightsFirst twoWords threeWords fourWords mediaWords
+unfolding laid readWords padded valueWords projectWords occupationWords measurementWords pointWords heightsWords heightsFirst networkWords localWords twoWords threeWords fourWords mediaWords
 words-read s (R.Job r) = refl
 words-read s (R.Title r) = refl
 words-read s (R.Continuation r) = refl
@@ -239,6 +267,9 @@ module _ (x : Reading) (w u : List ℤ) (zeros : w ≡ replicate 32 (pos 0)) whe
 
 pub told-small : (x : Reading) (f : Fault) → Told x → x ≡ Reading.Refused f → Small f
 told-small x f t e = t .small f e
+
+pub told-held : (x : Reading) (s : Sequence) (r : Record) → Told x → x ≡ Reading.Values s r → inRange r ≡ true
+told-held x s r t e = t .held s r e
 
 pub read-answer : (old : List ℤ) → 32 ≤ length old → (v w : Reading) → v ≡ w → (u : List ℤ) → u ≡ readWords v → u ++ drop 32 old ≡ answered 32 (readWords w) old
 read-answer old h v w e u q = long-answer 32 old h u (readWords w) (q ∙ ap readWords e)

@@ -27,7 +27,7 @@ ghost use mathlib.Core.Path.{_≡_};
 ghost use Prim.Native.Nat.{_<_, _^_, _+_};
 ghost use Rattle.rules.specs.Items.{signed};
 ghost use Rattle.columns.specs.Leaves.{splitLongOf};
-ghost use Rattle.answers.specs.Given.{wordAt, digitOf, millimetresOf, isLeast, heightOf, characterAt, numberAt, twoAt, threeAt, fourAt, mediaAt, projectGiven, occupationGiven, measurementGiven, pointGiven, heightsGiven, recordGiven, given, sequenceGiven};
+ghost use Rattle.answers.specs.Given.{wordAt, digitOf, signedOf, isLeast, heightOf, characterAt, numberAt, twoAt, threeAt, fourAt, mediaAt, projectGiven, occupationGiven, measurementGiven, pointGiven, heightsGiven, networkGiven, localGiven, recordGiven, given, sequenceGiven};
 
 // A word, and the largest one where it is lacking.
 fn word_at(values: &[i64], i: usize) -> i64
@@ -78,32 +78,47 @@ fn digit_at(values: &[i64], i: usize) -> u8
     }
 }
 
-fn sign_millimetres(negative: bool, v: u32) -> i32
+fn give_sign(negative: bool, v: u32) -> i32
     requires { ⌜ v < 2 ^ 31 ⌝ }
     ensures { λ r. ⌜ r ≡ signed negative v ⌝ }
 {
     if negative { -(v as i32) } else { v as i32 }
 }
 
-fn millimetres_at(values: &[i64], i: usize) -> i32
-    ensures { λ r. ⌜ r ≡ millimetresOf (wordAt (now (values .entry)) i) ⌝ }
+// A height in millimetres.
+fn signed_at(values: &[i64], i: usize) -> i32
+    ensures { λ r. ⌜ r ≡ signedOf (wordAt (now (values .entry)) i) ⌝ }
 {
     match split_at(values, i) {
         SplitLong::Plus(n) => {
-            if n <= 9_999_999 {
-                sign_millimetres(false, n as u32)
+            if n <= 99_999_999 {
+                give_sign(false, n as u32)
             } else {
-                10_000_000
+                100_000_000
             }
         }
         SplitLong::Minus(n) => {
-            if n <= 9_999_999 {
-                sign_millimetres(true, n as u32)
+            if n <= 99_999_999 {
+                give_sign(true, n as u32)
             } else {
-                10_000_000
+                100_000_000
             }
         }
     }
+}
+
+// The same in 64 bits, for a correlation.
+fn correlation_at(values: &[i64], i: usize) -> i64
+    ensures { λ r. ⌜ r ≡ signedOf (wordAt (now (values .entry)) i) ⌝ }
+{
+    signed_at(values, i) as i64
+}
+
+// A standard deviation.
+fn deviation_at(values: &[i64], i: usize) -> u64
+    ensures { λ r. ⌜ r ≡ numberAt (now (values .entry)) i ⌝ }
+{
+    number_at(values, i) as u64
 }
 
 // The least word is a missing height.
@@ -122,7 +137,7 @@ fn height_at(values: &[i64], i: usize) -> Height
     if is_missing(values, i) {
         return Height::Missing;
     }
-    Height::Mm(millimetres_at(values, i))
+    Height::Mm(signed_at(values, i))
 }
 
 pub(crate) fn give_sequence(values: &[i64]) -> Sequence
@@ -225,7 +240,7 @@ fn give_measurement(values: &[i64]) -> Measurement
         number_at(values, 2),
         number_at(values, 3),
         number_at(values, 4),
-        millimetres_at(values, 5),
+        signed_at(values, 5),
     )
 }
 
@@ -255,6 +270,33 @@ fn give_heights(values: &[i64]) -> Heights
         height_at(values, 12),
         character_at(values, 13),
         character_at(values, 14),
+    )
+}
+
+fn give_network(values: &[i64]) -> Network
+    ensures { λ r. ⌜ r ≡ networkGiven (now (values .entry)) ⌝ }
+{
+    Network::new(
+        number_at(values, 2),
+        deviation_at(values, 3),
+        deviation_at(values, 4),
+        correlation_at(values, 5),
+        deviation_at(values, 6),
+        character_at(values, 7),
+    )
+}
+
+fn give_local(values: &[i64]) -> Local
+    ensures { λ r. ⌜ r ≡ localGiven (now (values .entry)) ⌝ }
+{
+    Local::new(
+        number_at(values, 2),
+        number_at(values, 3),
+        deviation_at(values, 4),
+        deviation_at(values, 5),
+        correlation_at(values, 6),
+        deviation_at(values, 7),
+        character_at(values, 8),
     )
 }
 
@@ -302,13 +344,13 @@ fn give_high(values: &[i64], kind: u32) -> Record
         return Record::Heights(give_heights(values));
     }
     if kind < 12 {
-        return Record::Network(Network::new());
+        return Record::Network(give_network(values));
     }
     if kind < 13 {
-        return Record::Local(Local::new());
+        return Record::Local(give_local(values));
     }
     if kind < 14 {
-        return Record::Factor(Factor::new());
+        return Record::Factor(Factor::new(number_at(values, 2), number_at(values, 3)));
     }
     Record::Job(Job::new(0, 0))
 }

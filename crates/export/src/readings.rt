@@ -11,11 +11,14 @@ use crate::words::put_three;
 use crate::words::put_two;
 use columns::Height;
 use kinds::Antenna;
+use kinds::Factor;
 use kinds::Fault;
 use kinds::Heights;
 use kinds::Instrument;
 use kinds::Job;
+use kinds::Local;
 use kinds::Measurement;
+use kinds::Network;
 use kinds::Occupation;
 use kinds::Point;
 use kinds::Project;
@@ -24,11 +27,13 @@ use kinds::Record;
 use kinds::Sequence;
 ghost use mathlib.Core.Path.{_≡_};
 ghost use mathlib.Core.List.{[], _∷_};
-ghost use lib.ListN.{length};
+ghost use mathlib.Core.Bool.{true};
+ghost use Prim.Native.Nat.{_≤_};
+ghost use lib.ListN.{length, set};
 ghost use lib.IntN.{pos, negsuc};
 ghost use Rattle.kinds.specs.Values.{kindNumber};
 ghost use Rattle.answers.specs.Answers.{Small};
-ghost use Rattle.answers.specs.Words.{fourWords, projectWords, occupationWords, measurementWords, pointWords, heightsWords, heightsFirst, valueWords, sequenceWord, readWords, Told, laid};
+ghost use Rattle.answers.specs.Words.{fourWords, projectWords, occupationWords, measurementWords, pointWords, heightsWords, heightsFirst, networkWords, localWords, valueWords, sequenceWord, readWords, inRange, Told, laid};
 
 fn put_job(out: &mut [i64], r: Job)
     ensures { λ _. ⌜ now (out .exit) ≡ laid 5 (pos (r .first) ∷ pos (r .second) ∷ []) (now (out .entry)) ⌝ }
@@ -127,7 +132,50 @@ fn put_heights(out: &mut [i64], r: Heights)
     put_character(out, 17, r.ellipsoiddatum);
 }
 
+// A standard deviation that was read fits half a word.
+fn put_deviation(out: &mut [i64], at: usize, n: u64)
+    requires { ⌜ n ≤ 999_999_999 ⌝ }
+    ensures { λ _. ⌜ now (out .exit) ≡ set (now (out .entry)) at (pos n) ⌝ }
+{
+    put_number(out, at, n as u32);
+}
+
+fn put_network(out: &mut [i64], r: Network)
+    requires { ⌜ (r .north ≤ 999_999_999) × (r .east ≤ 999_999_999) × (r .ellipsoid ≤ 999_999_999) ⌝ }
+    ensures { λ _. ⌜ now (out .exit) ≡ laid 5 (networkWords r) (now (out .entry)) ⌝ }
+{
+    let correlation = r.correlation;
+    put_number(out, 5, r.station);
+    put_deviation(out, 6, r.north);
+    put_deviation(out, 7, r.east);
+    put_signed(out, 8, correlation);
+    put_deviation(out, 9, r.ellipsoid);
+    put_character(out, 10, r.scaled);
+}
+
+fn put_local(out: &mut [i64], r: Local)
+    requires { ⌜ (r .north ≤ 999_999_999) × (r .east ≤ 999_999_999) × (r .ellipsoid ≤ 999_999_999) ⌝ }
+    ensures { λ _. ⌜ now (out .exit) ≡ laid 5 (localWords r) (now (out .entry)) ⌝ }
+{
+    let correlation = r.correlation;
+    put_number(out, 5, r.standpoint);
+    put_number(out, 6, r.forepoint);
+    put_deviation(out, 7, r.north);
+    put_deviation(out, 8, r.east);
+    put_signed(out, 9, correlation);
+    put_deviation(out, 10, r.ellipsoid);
+    put_character(out, 11, r.scaled);
+}
+
+fn put_factor(out: &mut [i64], r: Factor)
+    ensures { λ _. ⌜ now (out .exit) ≡ laid 5 (pos (r .horizontal) ∷ pos (r .vertical) ∷ []) (now (out .entry)) ⌝ }
+{
+    put_number(out, 5, r.horizontal);
+    put_number(out, 6, r.vertical);
+}
+
 fn put_record(out: &mut [i64], what: Record)
+    requires { ⌜ inRange what ≡ true ⌝ }
     ensures { λ _. ⌜ now (out .exit) ≡ laid 5 (valueWords what) (now (out .entry)) ⌝ }
 {
     match what {
@@ -142,9 +190,9 @@ fn put_record(out: &mut [i64], what: Record)
         Record::Antenna(r) => put_antenna(out, r),
         Record::Point(r) => put_point(out, r),
         Record::Heights(r) => put_heights(out, r),
-        Record::Network(r) => {}
-        Record::Local(r) => {}
-        Record::Factor(r) => {}
+        Record::Network(r) => put_network(out, r),
+        Record::Local(r) => put_local(out, r),
+        Record::Factor(r) => put_factor(out, r),
     }
 }
 
@@ -170,6 +218,7 @@ fn number_kind(what: Record) -> u32
 }
 
 fn put_values(out: &mut [i64], s: Sequence, what: Record)
+    requires { ⌜ inRange what ≡ true ⌝ }
     ensures { λ _. ⌜ now (out .exit) ≡ laid 3 (pos (kindNumber what) ∷ sequenceWord s ∷ valueWords what) (now (out .entry)) ⌝ }
 {
     put_number(out, 3, number_kind(what));

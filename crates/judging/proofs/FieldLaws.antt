@@ -10,7 +10,7 @@ use lib.Seq.{length-take-le}
 use Rattle.rules.specs.Tests.{all, _&_, _≤?_, _=?_}
 use Rattle.rules.specs.Characters.{isBlank}
 use Rattle.rules.specs.Items as rules
-use Rattle.rules.specs.Items.{number, width, good, spot}
+use Rattle.rules.specs.Items.{width, good, spot}
 use Rattle.rules.specs.Fields.{Expect, check, _⨾_, sameTruth, meets}
 use Rattle.rules.proofs.Truth.{true-and}
 use Rattle.rules.proofs.Lawful.{first-bad-most}
@@ -83,6 +83,10 @@ module _ (e : Expect) (l bs : List ℕ) {b : Bond} where
     unfolding agreesIn
     agrees-with z x u y v q o = rw z (o ∙ rw (y, q, x))
 
+    pub agrees-apart : b ≡ B.Differs c w → p ≡ part c w l → (u : ℕ) → u ≡ numberIn p → (v : ℕ) → v ≡ numberIn bs → not (eqb u v) ≡ agreesIn e l b bs
+    unfolding agreesIn _=?_
+    agrees-apart z x u y v q = rw (z, y, q, x)
+
 -- no field is refused behind column 80 of it
 spot-80 : (i : rules.Item) (w : ℕ) → spans i w ≡ true → (bs : List ℕ) → spot i bs ≤ 80
 unfolding spot
@@ -140,7 +144,3 @@ module _ (l : List ℕ) (c w : ℕ) (long : 80 ≤ length l) (p : 1 ≤ c) (q : 
       pub refused-is : c + o ≡ refused l i c w
       unfolding refused
       refused-is = ap (λ n. c + n) (k ∙ rw (cut-length, cut-is))
-
-pub sized-number : (w lo hi : ℕ) (may : Bool) → sized (number w lo hi may) ≡ w ≤? 16
-unfolding sized
-sized-number w lo hi may = refl

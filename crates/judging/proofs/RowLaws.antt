@@ -2,7 +2,7 @@
 use mathlib.Core.Path.{_≡_, refl, sym, _∙_, ap}
 use mathlib.Core.Bool.{Bool, true, false, false≢true}
 use mathlib.Core.List.{List, [], _∷_, map}
-use Prim.Native.Nat.{ℕ, _+_, _-_, _*_, _≤_, _<_}
+use Prim.Native.Nat.{ℕ, _+_, _-_, _≤_, _<_}
 use native.Mathlib.Omega.{arith}
 use lib.Dec.{lit≤}
 use lib.Seq.{slice, slice-empty}
@@ -13,12 +13,13 @@ use Rattle.rules.specs.Digits.{val}
 use Rattle.rules.specs.Items.{Test, each, number, height, month, word, columns, width, valueOf, good, spot}
 use Rattle.rules.specs.Fields.{Expect, Verdict, ok, fault, isOk, check, _⨾_, columnsOf, read, valueAt, numOf, isMissing, agreesWith, agrees, judgeEach, judge}
 use Rattle.rules.specs.Layouts.{kept, layouts}
-use Rattle.rules.proofs.Truth.{both, to≤, of≤, to≡, of≡, of≢, cases}
+use Rattle.rules.proofs.Truth.{both, to≤, of≤, of≡, of≢, cases}
 use Rattle.rules.proofs.FieldLaws.{⨾-assoc}
 use Rattle.rules.proofs.FileLaws.{length-take-most}
 use Rattle.kinds.specs.declared.tables.Item.{Item}
 use Rattle.kinds.specs.declared.tables.Item.the-variants as I
 use Rattle.columns.specs.Types.{wayOf, setOf}
+use Rattle.columns.proofs.ValueLaws.{blank-val}
 use Rattle.kinds.specs.declared.tables.Bond.{Bond}
 use Rattle.kinds.specs.declared.tables.Bond.the-variants as B
 use Rattle.kinds.specs.Tables.{itemOf, Row, rowLists, rows, starts, items, bonds, firsts, widths}
@@ -58,14 +59,6 @@ few n l h = of≤ (omega (arith, length-take-most n l))
 number-in : (n : ℕ) (l : List ℕ) → n ≤ 16 → numberIn (take n l) ≡ val 0 (take n l)
 number-in n l h = rw (few n l h)
 
-blank-val : (bs : List ℕ) → all isBlank bs ≡ true → val 0 bs ≡ 0
-unfolding all isBlank val
-blank-val [] h = refl
-blank-val (b ∷ bs) h = ap (λ k. val k bs) z ∙ blank-val bs (both h .1)
-  where
-    z : 0 * 10 + (b - 48) ≡ 0
-    z = omega (arith, to≡ (both h .0))
-
 number-tells : (w lo hi : ℕ) (may : Bool) (bs : List ℕ) → numOf (valueOf (number w lo hi may) bs) ≡ val 0 bs
 unfolding valueOf numOf
 number-tells w lo hi may bs = cases (all isBlank bs) (λ e. rw e (sym (blank-val bs e))) (λ e. rw e)
@@ -74,9 +67,9 @@ month-tells : (bs : List ℕ) → numOf (valueOf month bs) ≡ val 0 bs
 unfolding valueOf numOf
 month-tells bs = refl
 
-height-tells : (w : ℕ) (may : Bool) (bs : List ℕ) → isMissing (valueOf (height w may) bs) ≡ all isBlank bs
+height-tells : (w lo hi : ℕ) (may : Bool) (bs : List ℕ) → isMissing (valueOf (height w lo hi may) bs) ≡ all isBlank bs
 unfolding valueOf isMissing
-height-tells w may bs = cases (all isBlank bs) (λ e. rw e) (λ e. rw e)
+height-tells w lo hi may bs = cases (all isBlank bs) (λ e. rw e) (λ e. rw e)
 
 word-tells : (w : ℕ) (t : Test) (bs : List ℕ) → isMissing (valueOf (word w t) bs) ≡ all isBlank bs
 unfolding valueOf isMissing
@@ -113,15 +106,22 @@ apart-judge e l = each-kind (Alike e l) refl refl refl
     (rw (
       number-in 4 (drop 10 l) (lit≤ tt),
       number-tells 4 1 9_999 false (take 4 (drop 10 l)),
-      height-tells 7 true (take 7 (drop 16 l)),
-      height-tells 7 true (take 7 (drop 35 l)),
-      height-tells 7 true (take 7 (drop 45 l)),
+      height-tells 7 999_999 9_999_999 true (take 7 (drop 16 l)),
+      height-tells 7 999_999 9_999_999 true (take 7 (drop 35 l)),
+      height-tells 7 999_999 9_999_999 true (take 7 (drop 45 l)),
       word-tells 1 (each (letter or space)) (take 1 (drop 23 l)),
       word-tells 1 (each (only 89 or only 78 or space)) (take 1 (drop 26 l)),
       word-tells 1 (each (letter or digit or space)) (take 1 (drop 42 l)),
       word-tells 1 (each (letter or space)) (take 1 (drop 52 l)),
     ))
-    refl refl refl
+    refl
+    (rw (
+      number-in 4 (drop 10 l) (lit≤ tt),
+      number-in 4 (drop 16 l) (lit≤ tt),
+      number-tells 4 1 9_999 false (take 4 (drop 10 l)),
+      number-tells 4 1 9_999 false (take 4 (drop 16 l)),
+    ))
+    refl
 
 pub rows-judge : (e : Expect) (l : List ℕ) (k : ℕ) → k < 14 → judgeRows e l (getD rowLists k []) ≡ judge e (map (read l) (getD layouts k kept))
 rows-judge e l k h = apart-is e l (getD rowLists k []) ∙ apart-judge e l k h
@@ -139,14 +139,14 @@ pub record Inside (i : Item) (c w : ℕ) : Type 0 where
   pub last : c + w ≤ 81
   pub spanned : spans (itemOf i w) w ≡ true
 
-pub row-inside : (i : ℕ) → i < 67 → Inside (getD items i I.Blank) (getD firsts i 0) (getD widths i 0)
+pub row-inside : (i : ℕ) → i < 87 → Inside (getD items i I.Blank) (getD firsts i 0) (getD widths i 0)
 unfolding inside
 row-inside i h =
     let t = row-passes inside rows-inside i h in
     rw (item-is i, first-is i, width-is i) record { first = to≤ (both (both t .0) .0); last = to≤ (both (both t .0) .1); spanned = both t .1 }
 
 -- the tables' answers put together
-pub at-requires : (i : ℕ) → i < 67 → {n : ℕ} → 80 ≤ n → (f : ℕ) → f ≡ getD firsts i 0 → (c : ℕ) → c ≡ f → (v : ℕ) → v ≡ getD widths i 0 → (w : ℕ) → w ≡ v → (it : Item) → it ≡ getD items i I.Blank
+pub at-requires : (i : ℕ) → i < 87 → {n : ℕ} → 80 ≤ n → (f : ℕ) → f ≡ getD firsts i 0 → (c : ℕ) → c ≡ f → (v : ℕ) → v ≡ getD widths i 0 → (w : ℕ) → w ≡ v → (it : Item) → it ≡ getD items i I.Blank
     → (80 ≤ n) × (1 ≤ c) × (c + w ≤ 81) × (spans (itemOf it w) w ≡ true)
 at-requires i h long f p c q v p′ w q′ it t =
     let r = row-inside i h in
@@ -184,7 +184,7 @@ row-pointed e l i b c w = named-after _ _ _ _
 -- ---- the loop: the rows from i on are what was to judge at the start
 pub record Walked (e : Expect) (l : List ℕ) (kind end i : ℕ) : Type 0 where
   pub low : i ≤ end
-  pub high : end ≤ 67
+  pub high : end ≤ 87
   pub same : judgeRows e l (slice i end rows) ≡ judge e (map (read l) (getD layouts kind kept))
 
 pub walk-from : (e : Expect) (l : List ℕ) (kind : ℕ) → kind < 14 → (s : ℕ) → s ≡ getD starts (kind + 1) 0 → (end : ℕ) → end ≡ s → (t : ℕ) → t ≡ getD starts kind 0 → (i : ℕ) → i ≡ t → Walked e l kind end i
@@ -193,7 +193,7 @@ walk-from e l kind h s p end q t p′ i q′ =
     rw (q, p, q′, p′) record { low = b .low; high = b .high; same = rw (b .whole) (rows-judge e l kind h) }
 
 module _ {e : Expect} {l : List ℕ} {kind end i : ℕ} (v : Walked e l kind end i) (h : i < end) where
-  pub below : i < 67
+  pub below : i < 87
   below = omega (arith, v .high)
 
   step : judgeRows e l (slice i end rows) ≡ pointed (refusedAt l i) (judgeFieldAt e l i) ⨾ judgeRows e l (slice (i + 1) end rows)

@@ -10,7 +10,7 @@ use lib.IntN.{pos}
 use Rattle.rules.specs.Tests.{all, within, _&_, _≤?_, _=?_}
 use Rattle.rules.specs.Characters.{oneOf, member, isLetter, isDigit, isPrintable}
 use Rattle.rules.specs.Digits.{put}
-use Rattle.rules.specs.Items.{Item, num, constant, number, angle, month, media, each, setIn, onGap, onNumber, onText, onLabel, top, width, good, fits, render, least, ends, goesOn, begins, firstBad, spot, isMonth, isMedia}
+use Rattle.rules.specs.Items.{Item, num, constant, number, height, angle, month, media, setIn, onGap, onNumber, onText, onLabel, top, width, good, fits, render, least, ends, goesOn, begins, firstBad, spot, isMonth, isMedia}
 use Rattle.rules.proofs.BeginningLaws.{least-sized}
 use Rattle.rules.proofs.Truth.{both, to≤, of≤, to≡, of≡, true-and}
 use Rattle.columns.specs.declared.Set.{Set}
@@ -38,11 +38,19 @@ module _ (i : Item) (w : ℕ) (h : spans i w ≡ true) where
   spans-sized = both h .1
 
 -- ---- of its kind and range
-pub good-narrow : (lo hi : ℕ) (may : Bool) (bs : List ℕ) {kind : FieldKind} {r : Bool} → kind ≡ K.Number lo hi may → spans (itemAs kind (length bs)) (length bs) ≡ true
-    → r ≡ length bs ≤? 16 & good (number (length bs) lo hi may) bs → r ≡ good (itemAs kind (length bs)) bs
+pub sized-number : (w lo hi : ℕ) (may : Bool) → sized (number w lo hi may) ≡ w ≤? 16
 unfolding sized
-good-narrow lo hi may bs e h z =
-    let few : length bs ≤? 16 ≡ true = spans-sized (number (length bs) lo hi may) (length bs) (rw e at h) in rw e (z ∙ ap (λ t. t & good (number (length bs) lo hi may) bs) few ∙ true-and (good (number (length bs) lo hi may) bs))
+sized-number w lo hi may = refl
+
+pub sized-height : (w lo hi : ℕ) (may : Bool) → sized (height w lo hi may) ≡ w ≤? 16
+unfolding sized
+sized-height w lo hi may = refl
+
+pub good-narrow : (k : FieldKind) (bs : List ℕ) {kind : FieldKind} {r : Bool} → sized (itemAs k (length bs)) ≡ length bs ≤? 16 → kind ≡ k → spans (itemAs kind (length bs)) (length bs) ≡ true
+    → r ≡ length bs ≤? 16 & good (itemAs k (length bs)) bs → r ≡ good (itemAs kind (length bs)) bs
+good-narrow k bs s e h z =
+    let few : length bs ≤? 16 ≡ true = sym s ∙ spans-sized (itemAs k (length bs)) (length bs) (rw e at h) in
+    rw e (z ∙ ap (λ t. t & good (itemAs k (length bs)) bs) few ∙ true-and (good (itemAs k (length bs)) bs))
 
 pub media-long : (bs : List ℕ) {kind : FieldKind} → kind ≡ K.Media → spans (itemAs kind (length bs)) (length bs) ≡ true → length bs ≡ 10
 unfolding width
@@ -58,6 +66,7 @@ oneIn Set.Digit = 48
 oneIn Set.Printable = 65
 oneIn Set.Title = 65
 oneIn Set.Name = 65
+oneIn Set.YesNo = 89
 oneIn Set.YesNoOrSpace = 89
 
 pub one-in : {s t : Set} → s ≡ t → oneIn t ≡ oneOf (setOf s)
@@ -72,6 +81,7 @@ one-in {s} {t} e = rw e (by t)
     by Set.Printable = unfold oneOf setOf in refl
     by Set.Title = unfold oneOf setOf in refl
     by Set.Name = unfold oneOf setOf in refl
+    by Set.YesNo = unfold oneOf setOf member isPrintable within _≤?_ _=?_ _&_ in refl
     by Set.YesNoOrSpace = unfold oneOf setOf member isPrintable within _≤?_ _=?_ _&_ in refl
 
 -- ---- the least value
@@ -106,9 +116,9 @@ module _ (n : ℕ) {kind : FieldKind} {out : List ℕ} where
   unfolding render least onNumber
   least-number lo hi may e v k z = rw e (z ∙ ap (put n) k)
 
-  pub least-height : (may : Bool) → kind ≡ K.Height may → out ≡ put n 0 → Least kind n out
+  pub least-height : (lo hi : ℕ) (may : Bool) → kind ≡ K.Height lo hi may → out ≡ put n 0 → Least kind n out
   unfolding render least onNumber
-  least-height may e z = rw e z
+  least-height lo hi may e z = rw e z
 
   pub least-word : (s : Set) → kind ≡ K.Word s → (b : ℕ) → b ≡ oneOf (setOf s) → out ≡ replicate n b → Least kind n out
   unfolding render least onText setIn

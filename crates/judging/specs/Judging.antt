@@ -1,6 +1,6 @@
 -- The judge of a line's fields as the code goes about it: row by row of the tables, with the columns that a field is compared with at hand.
 use mathlib.Core.Path.{_≡_}
-use mathlib.Core.Bool.{Bool, true, cond}
+use mathlib.Core.Bool.{Bool, true, cond, not}
 use mathlib.Core.List.{List, [], _∷_}
 use Prim.Native.Nat.{ℕ, _+_, _-_}
 use lib.ListN.{length, take, drop, getD}
@@ -32,13 +32,14 @@ agreesIn e l B.Free bs = true
 agreesIn e l B.Expected bs = meets e (numberIn bs)
 agreesIn e l (B.NotBefore c w) bs = numberIn (part c w l) ≤? numberIn bs
 agreesIn e l (B.GoesWith c w) bs = sameTruth (all isBlank (part c w l)) (all isBlank bs)
+agreesIn e l (B.Differs c w) bs = not (numberIn (part c w l) =? numberIn bs)
 
--- a number's columns are at most sixteen
+-- the columns of a number, with a sign or without, are at most sixteen
 unfoldable pub sized : Item → Bool
 sized (blank w) = true
 sized (constant c) = true
 sized (number w lo hi may) = w ≤? 16
-sized (height w may) = true
+sized (height w lo hi may) = w ≤? 16
 sized (angle way) = true
 sized month = true
 sized media = true
@@ -49,7 +50,7 @@ abbrev pub itemAs : FieldKind → ℕ → Item
 itemAs K.Blank w = blank w
 itemAs (K.Constant c) w = constant c
 itemAs (K.Number lo hi may) w = number w lo hi may
-itemAs (K.Height may) w = height w may
+itemAs (K.Height lo hi may) w = height w lo hi may
 itemAs (K.Angle way) w = angle (wayOf way)
 itemAs K.Month w = month
 itemAs K.Media w = media

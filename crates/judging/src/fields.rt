@@ -49,8 +49,11 @@ fn good_item(item: Item, part: &[u8]) -> bool
         Item::Equipment => good_number(part, 1, 999, false),
         Item::Date => good_number(part, 0, 999_999, false),
         Item::Time => good_number(part, 0, 9999, false),
-        Item::Rise => good_height(part, false),
-        Item::Metres => good_height(part, true),
+        Item::Rise => good_height(part, 9999, 99_999, false),
+        Item::Metres => good_height(part, 999_999, 9_999_999, true),
+        Item::Deviation => good_number(part, 0, 999_999_999, false),
+        Item::Correlation => good_height(part, 99_999_990, 99_999_999, false),
+        Item::Variance => good_number(part, 1, 9999, false),
         Item::Month => good_month(part),
         Item::Media => good_media(part),
         Item::Latitude => good_angle(part, Way::Latitude),
@@ -58,6 +61,7 @@ fn good_item(item: Item, part: &[u8]) -> bool
         Item::Letter => good_word(part, Set::Letter),
         Item::LetterOrSpace => good_word(part, Set::LetterOrSpace),
         Item::LetterOrDigitOrSpace => good_word(part, Set::LetterOrDigitOrSpace),
+        Item::YesNo => good_word(part, Set::YesNo),
         Item::YesNoOrSpace => good_word(part, Set::YesNoOrSpace),
         Item::Pair => good_word_or_blank(part, Set::Digit),
         Item::Datum => good_word_or_blank(part, Set::LetterOrDigit),
@@ -78,8 +82,11 @@ fn field_kind(item: Item) -> FieldKind
         Item::Equipment => FieldKind::Number(1, 999, false),
         Item::Date => FieldKind::Number(0, 999_999, false),
         Item::Time => FieldKind::Number(0, 9999, false),
-        Item::Rise => FieldKind::Height(false),
-        Item::Metres => FieldKind::Height(true),
+        Item::Rise => FieldKind::Height(9999, 99_999, false),
+        Item::Metres => FieldKind::Height(999_999, 9_999_999, true),
+        Item::Deviation => FieldKind::Number(0, 999_999_999, false),
+        Item::Correlation => FieldKind::Height(99_999_990, 99_999_999, false),
+        Item::Variance => FieldKind::Number(1, 9999, false),
         Item::Month => FieldKind::Month,
         Item::Media => FieldKind::Media,
         Item::Latitude => FieldKind::Angle(Way::Latitude),
@@ -87,6 +94,7 @@ fn field_kind(item: Item) -> FieldKind
         Item::Letter => FieldKind::Word(Set::Letter),
         Item::LetterOrSpace => FieldKind::Word(Set::LetterOrSpace),
         Item::LetterOrDigitOrSpace => FieldKind::Word(Set::LetterOrDigitOrSpace),
+        Item::YesNo => FieldKind::Word(Set::YesNo),
         Item::YesNoOrSpace => FieldKind::Word(Set::YesNoOrSpace),
         Item::Pair => FieldKind::WordOrBlank(Set::Digit),
         Item::Datum => FieldKind::WordOrBlank(Set::LetterOrDigit),
@@ -146,6 +154,7 @@ fn agrees_item(e: Expect, line: &[u8], bond: Bond, part: &[u8]) -> bool
         Bond::Expected => is_met(e, value_of(part)),
         Bond::NotBefore(c, w) => value_of(earlier(line, c, w)) <= value_of(part),
         Bond::GoesWith(c, w) => same_truth(all_blank(earlier(line, c, w)), all_blank(part)),
+        Bond::Differs(c, w) => value_of(earlier(line, c, w)) != value_of(part),
     }
 }
 
@@ -167,7 +176,7 @@ fn judge_row(e: Expect, line: &[u8], item: Item, bond: Bond, first: usize, width
 }
 
 fn judge_at(e: Expect, line: &[u8], i: usize) -> Judged
-    requires { ⌜ (80 ≤ length (now line)) × (i < 67) ⌝ }
+    requires { ⌜ (80 ≤ length (now line)) × (i < 87) ⌝ }
     ensures { λ r. ⌜ r ≡ judgedOf (judgeFieldAt (expectOf e) (now (line .entry)) i) ⌝ }
 {
     let first = wide(first_at(i));
@@ -186,7 +195,7 @@ fn refused_in(line: &[u8], item: Item, first: usize, width: usize) -> usize
 }
 
 fn refused_at(line: &[u8], i: usize) -> usize
-    requires { ⌜ (80 ≤ length (now line)) × (i < 67) ⌝ }
+    requires { ⌜ (80 ≤ length (now line)) × (i < 87) ⌝ }
     ensures { λ r. ⌜ r ≡ refusedAt (now (line .entry)) i ⌝ }
 {
     let first = wide(first_at(i));
@@ -196,7 +205,7 @@ fn refused_at(line: &[u8], i: usize) -> usize
 
 // The fault of row i, a 9 named at its character. It is asked for once, behind the loop's good path.
 fn point_at(line: &[u8], i: usize, n: u32, c: usize) -> Judged
-    requires { ⌜ (80 ≤ length (now line)) × (i < 67) ⌝ }
+    requires { ⌜ (80 ≤ length (now line)) × (i < 87) ⌝ }
     ensures { λ r. ⌜ r ≡ judgedOf (pointed (refusedAt (now (line .entry)) i) (fault n c)) ⌝ }
 {
     if n == 9 {

@@ -38,7 +38,7 @@ pub enum FieldKind {
     Blank,
     Constant(u8),
     Number(u32, u32, bool),
-    Height(bool),
+    Height(u32, u32, bool),
     Angle(Way),
     Month,
     Media,
@@ -63,7 +63,7 @@ fn is_good(part: &[u8], kind: FieldKind) -> bool
         FieldKind::Blank => good_blank(part),
         FieldKind::Constant(c) => good_constant(part, c),
         FieldKind::Number(lo, hi, may) => good_number(part, lo, hi, may),
-        FieldKind::Height(may) => good_height(part, may),
+        FieldKind::Height(lo, hi, may) => good_height(part, lo, hi, may),
         FieldKind::Angle(way) => good_angle(part, way),
         FieldKind::Month => good_month(part),
         FieldKind::Media => is_media(part),
@@ -85,6 +85,7 @@ fn one_of(set: Set) -> u8
         Set::Printable => b'A',
         Set::Title => b'A',
         Set::Name => b'A',
+        Set::YesNo => b'Y',
         Set::YesNoOrSpace => b'Y',
     }
 }
@@ -104,7 +105,7 @@ fn put_least(out: &mut [u8], kind: FieldKind)
         FieldKind::Blank => put_blank(out),
         FieldKind::Constant(c) => put_all(out, c),
         FieldKind::Number(lo, hi, may) => put_digits(out, long(lo)),
-        FieldKind::Height(may) => put_digits(out, 0),
+        FieldKind::Height(lo, hi, may) => put_digits(out, 0),
         FieldKind::Angle(way) => put_angle(out, 0, way),
         FieldKind::Month => put_month(out, 101),
         FieldKind::Media => put_media(

@@ -43,7 +43,7 @@ each-kind P a b c d e f g h i j l m n o (suc (suc (suc (suc (suc (suc (suc (suc 
 -- where a kind's rows stand in the flat tables
 pub record Begins (k : ℕ) : Type 0 where
   pub low : getD starts k 0 ≤ getD starts (k + 1) 0
-  pub high : getD starts (k + 1) 0 ≤ 67
+  pub high : getD starts (k + 1) 0 ≤ 87
   pub whole : slice (getD starts k 0) (getD starts (k + 1) 0) rows ≡ getD rowLists k []
 
 pub begins : (k : ℕ) → k < 14 → Begins k
@@ -79,11 +79,11 @@ pub bond-named : (i : ℕ) (t : Tie) → t ≡ getD ties i Tie.Free → (u : Tie
 bond-named i t e u z q = q ∙ ap bondAs (sym z ∙ e) ∙ sym (List·getD-map bondAs ties i Tie.Free)
 
 -- a test of every row, at row i
-pub row-passes : (p : Row → Bool) → all p rows ≡ true → (i : ℕ) → i < 67 → p (rowAt i) ≡ true
+pub row-passes : (p : Row → Bool) → all p rows ≡ true → (i : ℕ) → i < 87 → p (rowAt i) ≡ true
 unfolding rowAt
 row-passes p t i h = all-at p rows (row I.Blank 0 0) i t h
 
 -- the rows from i on
-pub rows-from : (i end : ℕ) → i < end → end ≤ 67 → slice i end rows ≡ rowAt i ∷ slice (i + 1) end rows
+pub rows-from : (i end : ℕ) → i < end → end ≤ 87 → slice i end rows ≡ rowAt i ∷ slice (i + 1) end rows
 unfolding rowAt
 rows-from i end h k = slice-cons i end rows (row I.Blank 0 0) h k ∙ rw (add-one i)

@@ -5,7 +5,7 @@ use Prim.Native.Nat.{ℕ}
 use lib.ListN.{getD}
 use Rattle.rules.specs.Items.{each, orBlank, blank, constant, number, height, angle, month, media, word}
 use Rattle.rules.specs.Items as rules
-use Rattle.rules.specs.Fields.{free, notBefore, goesWith, expected, Field}
+use Rattle.rules.specs.Fields.{free, notBefore, goesWith, differs, expected, Field}
 use Rattle.rules.specs.Fields as fields
 use Rattle.columns.specs.declared.Way.{Way}
 use Rattle.columns.specs.declared.Set.{Set}
@@ -25,8 +25,11 @@ itemOf I.Station w = number w 1 9_999 false
 itemOf I.Equipment w = number w 1 999 false
 itemOf I.Date w = number w 0 999_999 false
 itemOf I.Time w = number w 0 9_999 false
-itemOf I.Rise w = height w false
-itemOf I.Metres w = height w true
+itemOf I.Rise w = height w 9_999 99_999 false
+itemOf I.Metres w = height w 999_999 9_999_999 true
+itemOf I.Deviation w = number w 0 999_999_999 false
+itemOf I.Correlation w = height w 99_999_990 99_999_999 false
+itemOf I.Variance w = number w 1 9_999 false
 itemOf I.Month w = month
 itemOf I.Media w = media
 itemOf I.Latitude w = angle (wayOf Way.Latitude)
@@ -34,6 +37,7 @@ itemOf I.Longitude w = angle (wayOf Way.Longitude)
 itemOf I.Letter w = word w (each (setOf Set.Letter))
 itemOf I.LetterOrSpace w = word w (each (setOf Set.LetterOrSpace))
 itemOf I.LetterOrDigitOrSpace w = word w (each (setOf Set.LetterOrDigitOrSpace))
+itemOf I.YesNo w = word w (each (setOf Set.YesNo))
 itemOf I.YesNoOrSpace w = word w (each (setOf Set.YesNoOrSpace))
 itemOf I.Pair w = word w (orBlank (setOf Set.Digit))
 itemOf I.Datum w = word w (orBlank (setOf Set.LetterOrDigit))
@@ -47,6 +51,7 @@ bondOf B.Free = free
 bondOf B.Expected = expected
 bondOf (B.NotBefore c w) = notBefore c
 bondOf (B.GoesWith c w) = goesWith c
+bondOf (B.Differs c w) = differs c
 
 -- the bonds by name
 abbrev pub bondAs : Tie → Bond
@@ -56,6 +61,7 @@ bondAs T.Began = B.NotBefore 11 6
 bondAs T.Orthometric = B.GoesWith 17 7
 bondAs T.Geoid = B.GoesWith 36 7
 bondAs T.Ellipsoid = B.GoesWith 46 7
+bondAs T.Standpoint = B.Differs 11 4
 
 pub record Row : Type 0 where
   pub item : Item
@@ -87,9 +93,9 @@ rowLists =
     ∷ (tied I.Equipment 11 3 T.Expected ∷ row I.Blank 14 3 ∷ row I.Printable 17 16 ∷ row I.Letter 33 4 ∷ row I.Blank 37 8 ∷ row I.Printable 45 20 ∷ row I.Blank 65 16 ∷ [])
     ∷ (row I.Station 11 4 ∷ row I.Printable 15 30 ∷ row I.Latitude 45 12 ∷ row I.Longitude 57 13 ∷ row I.Blank 70 7 ∷ row I.Letter 77 2 ∷ row I.Blank 79 2 ∷ [])
     ∷ (tied I.Station 11 4 T.Expected ∷ row I.Blank 15 2 ∷ row I.Metres 17 7 ∷ tied I.LetterOrSpace 24 1 T.Orthometric ∷ row I.Pair 25 2 ∷ tied I.YesNoOrSpace 27 1 T.Orthometric ∷ row I.Datum 28 2 ∷ row I.Printable 30 6 ∷ row I.Metres 36 7 ∷ tied I.LetterOrDigitOrSpace 43 1 T.Geoid ∷ row I.Blank 44 2 ∷ row I.Metres 46 7 ∷ tied I.LetterOrSpace 53 1 T.Ellipsoid ∷ row I.Blank 54 2 ∷ row I.LetterOrSpace 56 1 ∷ row I.Printable 57 24 ∷ [])
-    ∷ (row I.Printable 11 70 ∷ [])
-    ∷ (row I.Printable 11 70 ∷ [])
-    ∷ (row I.Printable 11 70 ∷ [])
+    ∷ (row I.Station 11 4 ∷ row I.Blank 15 6 ∷ row I.Deviation 21 10 ∷ row I.Deviation 31 10 ∷ row I.Correlation 41 10 ∷ row I.Deviation 51 10 ∷ row I.Blank 61 4 ∷ row I.YesNo 65 1 ∷ row I.Printable 66 15 ∷ [])
+    ∷ (row I.Station 11 4 ∷ row I.Blank 15 2 ∷ tied I.Station 17 4 T.Standpoint ∷ row I.Blank 21 2 ∷ row I.Deviation 23 10 ∷ row I.Deviation 33 10 ∷ row I.Correlation 43 10 ∷ row I.Deviation 53 10 ∷ row I.Blank 63 4 ∷ row I.YesNo 67 1 ∷ row I.Printable 68 13 ∷ [])
+    ∷ (row I.Variance 11 8 ∷ row I.Variance 19 8 ∷ row I.Printable 27 54 ∷ [])
     ∷ []
 
 abbrev pub concat : List (List Row) → List Row
@@ -119,4 +125,4 @@ abbrev pub widths : List ℕ
 widths = map (λ r. r .width) rows
 
 abbrev pub starts : List ℕ
-starts = 0 ∷ 1 ∷ 2 ∷ 3 ∷ 13 ∷ 20 ∷ 21 ∷ 27 ∷ 34 ∷ 41 ∷ 48 ∷ 64 ∷ 65 ∷ 66 ∷ 67 ∷ []
+starts = 0 ∷ 1 ∷ 2 ∷ 3 ∷ 13 ∷ 20 ∷ 21 ∷ 27 ∷ 34 ∷ 41 ∷ 48 ∷ 64 ∷ 73 ∷ 84 ∷ 87 ∷ []

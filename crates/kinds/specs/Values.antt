@@ -109,9 +109,12 @@ valuesOf (R.Heights r) a b c =
     ∷ heightValue (r .orthometric) ∷ text (r .code ∷ []) ∷ text (twoText (r .class)) ∷ text (r .indicator ∷ []) ∷ text (twoText (r .datum)) ∷ text a
     ∷ heightValue (r .geoid) ∷ text (r .geoidcode ∷ []) ∷ gap
     ∷ heightValue (r .ellipsoid) ∷ text (r .ellipsoidcode ∷ []) ∷ gap ∷ text (r .ellipsoiddatum ∷ []) ∷ text b ∷ []
-valuesOf (R.Network r) a b c = text a ∷ []
-valuesOf (R.Local r) a b c = text a ∷ []
-valuesOf (R.Factor r) a b c = text a ∷ []
+valuesOf (R.Network r) a b c =
+    num (pos (r .station)) ∷ gap ∷ num (pos (r .north)) ∷ num (pos (r .east)) ∷ num (r .correlation) ∷ num (pos (r .ellipsoid)) ∷ gap ∷ text (r .scaled ∷ []) ∷ text a ∷ []
+valuesOf (R.Local r) a b c =
+    num (pos (r .standpoint)) ∷ gap ∷ num (pos (r .forepoint)) ∷ gap
+    ∷ num (pos (r .north)) ∷ num (pos (r .east)) ∷ num (r .correlation) ∷ num (pos (r .ellipsoid)) ∷ gap ∷ text (r .scaled ∷ []) ∷ text a ∷ []
+valuesOf (R.Factor r) a b c = num (pos (r .horizontal)) ∷ num (pos (r .vertical)) ∷ text a ∷ []
 
 unfoldable pub meaningOf : Record → (a b c : List ℕ) → Meaning
 meaningOf r a b c = record { code = codeOf r; values = valuesOf r a b c }
@@ -145,7 +148,17 @@ recordFrom k code at =
       ellipsoidcode = charOf (at 12);
       ellipsoiddatum = charOf (at 14);
     }
-    ∷ R.Network record {} ∷ R.Local record {} ∷ []) k (R.Factor record {})
+    ∷ R.Network record { station = natOf (at 0); north = natOf (at 2); east = natOf (at 3); correlation = intOf (at 4); ellipsoid = natOf (at 5); scaled = charOf (at 7) }
+    ∷ R.Local record {
+      standpoint = natOf (at 0);
+      forepoint = natOf (at 2);
+      north = natOf (at 4);
+      east = natOf (at 5);
+      correlation = intOf (at 6);
+      ellipsoid = natOf (at 7);
+      scaled = charOf (at 9);
+    }
+    ∷ []) k (R.Factor record { horizontal = natOf (at 0); vertical = natOf (at 1) })
 
 unfoldable pub recordOf : Meaning → Record
 recordOf m = recordFrom (kindOf (m .code)) (m .code) (λ i. getD (m .values) i gap)

@@ -524,48 +524,180 @@ impl Heights {
     }
 }
 
-// *91*, a network accuracy.
-pub struct Network {}
+// *91*, a network accuracy: standard deviations in hundredths of a centimetre, the last one of the ellipsoid height, and the correlation of the first two
+// in hundred-millionths. Ten columns of any bytes fit 64 bits.
+pub struct Network {
+    pub station: u32,
+    pub north: u64,
+    pub east: u64,
+    pub correlation: i64,
+    pub ellipsoid: u64,
+    pub scaled: u8,
+}
 
 impl Network {
-    pub const TEXT: usize = 11;
+    pub const STATION: usize = 11;
 
-    pub const TEXT_WIDTH: usize = 70;
+    pub const STATION_WIDTH: usize = 4;
 
-    pub fn new() -> Network
-        ensures { λ r. ⌜ r ≡ record {} ⌝ }
+    pub const SPACER: usize = 15;
+
+    pub const SPACER_WIDTH: usize = 6;
+
+    pub const NORTH: usize = 21;
+
+    pub const NORTH_WIDTH: usize = 10;
+
+    pub const EAST: usize = 31;
+
+    pub const EAST_WIDTH: usize = 10;
+
+    pub const CORRELATION: usize = 41;
+
+    pub const CORRELATION_WIDTH: usize = 10;
+
+    pub const ELLIPSOID: usize = 51;
+
+    pub const ELLIPSOID_WIDTH: usize = 10;
+
+    pub const SECOND_SPACER: usize = 61;
+
+    pub const SECOND_SPACER_WIDTH: usize = 4;
+
+    pub const SCALED: usize = 65;
+
+    pub const SCALED_WIDTH: usize = 1;
+
+    pub const COMMENT: usize = 66;
+
+    pub const COMMENT_WIDTH: usize = 15;
+
+    pub fn new(
+        station: u32,
+        north: u64,
+        east: u64,
+        correlation: i64,
+        ellipsoid: u64,
+        scaled: u8,
+    ) -> Network
+        ensures { λ r. ⌜ r ≡ record { station = station; north = north; east = east; correlation = correlation; ellipsoid = ellipsoid; scaled = scaled } ⌝ }
     {
-        Network {}
+        Network {
+            station: station,
+            north: north,
+            east: east,
+            correlation: correlation,
+            ellipsoid: ellipsoid,
+            scaled: scaled,
+        }
     }
 }
 
-// *92*, a local accuracy.
-pub struct Local {}
+// *92*, a local accuracy: the same between two stations.
+pub struct Local {
+    pub standpoint: u32,
+    pub forepoint: u32,
+    pub north: u64,
+    pub east: u64,
+    pub correlation: i64,
+    pub ellipsoid: u64,
+    pub scaled: u8,
+}
 
 impl Local {
-    pub const TEXT: usize = 11;
+    pub const STANDPOINT: usize = 11;
 
-    pub const TEXT_WIDTH: usize = 70;
+    pub const STANDPOINT_WIDTH: usize = 4;
 
-    pub fn new() -> Local
-        ensures { λ r. ⌜ r ≡ record {} ⌝ }
+    pub const SPACER: usize = 15;
+
+    pub const SPACER_WIDTH: usize = 2;
+
+    pub const FOREPOINT: usize = 17;
+
+    pub const FOREPOINT_WIDTH: usize = 4;
+
+    pub const SECOND_SPACER: usize = 21;
+
+    pub const SECOND_SPACER_WIDTH: usize = 2;
+
+    pub const NORTH: usize = 23;
+
+    pub const NORTH_WIDTH: usize = 10;
+
+    pub const EAST: usize = 33;
+
+    pub const EAST_WIDTH: usize = 10;
+
+    pub const CORRELATION: usize = 43;
+
+    pub const CORRELATION_WIDTH: usize = 10;
+
+    pub const ELLIPSOID: usize = 53;
+
+    pub const ELLIPSOID_WIDTH: usize = 10;
+
+    pub const THIRD_SPACER: usize = 63;
+
+    pub const THIRD_SPACER_WIDTH: usize = 4;
+
+    pub const SCALED: usize = 67;
+
+    pub const SCALED_WIDTH: usize = 1;
+
+    pub const COMMENT: usize = 68;
+
+    pub const COMMENT_WIDTH: usize = 13;
+
+    pub fn new(
+        standpoint: u32,
+        forepoint: u32,
+        north: u64,
+        east: u64,
+        correlation: i64,
+        ellipsoid: u64,
+        scaled: u8,
+    ) -> Local
+        ensures { λ r. ⌜ r ≡ record { standpoint = standpoint; forepoint = forepoint; north = north; east = east; correlation = correlation; ellipsoid = ellipsoid; scaled = scaled } ⌝ }
     {
-        Local {}
+        Local {
+            standpoint: standpoint,
+            forepoint: forepoint,
+            north: north,
+            east: east,
+            correlation: correlation,
+            ellipsoid: ellipsoid,
+            scaled: scaled,
+        }
     }
 }
 
-// *93*, a variance factor.
-pub struct Factor {}
+// *93*, the factors of horizontal and vertical variance, in thousandths.
+pub struct Factor {
+    pub horizontal: u32,
+    pub vertical: u32,
+}
 
 impl Factor {
-    pub const TEXT: usize = 11;
+    pub const HORIZONTAL: usize = 11;
 
-    pub const TEXT_WIDTH: usize = 70;
+    pub const HORIZONTAL_WIDTH: usize = 8;
 
-    pub fn new() -> Factor
-        ensures { λ r. ⌜ r ≡ record {} ⌝ }
+    pub const VERTICAL: usize = 19;
+
+    pub const VERTICAL_WIDTH: usize = 8;
+
+    pub const COMMENT: usize = 27;
+
+    pub const COMMENT_WIDTH: usize = 54;
+
+    pub fn new(horizontal: u32, vertical: u32) -> Factor
+        ensures { λ r. ⌜ r ≡ record { horizontal = horizontal; vertical = vertical } ⌝ }
     {
-        Factor {}
+        Factor {
+            horizontal: horizontal,
+            vertical: vertical,
+        }
     }
 }
 

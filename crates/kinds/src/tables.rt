@@ -30,6 +30,9 @@ pub enum Item {
     Time,
     Rise,
     Metres,
+    Deviation,
+    Correlation,
+    Variance,
     Month,
     Media,
     Latitude,
@@ -37,6 +40,7 @@ pub enum Item {
     Letter,
     LetterOrSpace,
     LetterOrDigitOrSpace,
+    YesNo,
     YesNoOrSpace,
     Pair,
     Datum,
@@ -46,12 +50,13 @@ pub enum Item {
 }
 
 // What a field must agree with: nothing; what went before in the file; an earlier field, by its first column and width, that is not after it,
-// or that is missing exactly when it is blank.
+// that is missing exactly when it is blank, or that is another number.
 pub enum Bond {
     Free,
     Expected,
     NotBefore(u8, u8),
     GoesWith(u8, u8),
+    Differs(u8, u8),
 }
 
 // The bonds by name, since a table of names is not copied where it is indexed.
@@ -62,9 +67,10 @@ pub enum Tie {
     Orthometric,
     Geoid,
     Ellipsoid,
+    Standpoint,
 }
 
-const ITEMS: [Item; 67] = [
+const ITEMS: [Item; 87] = [
     Item::Printable,
     Item::Title,
     Item::Title,
@@ -129,12 +135,32 @@ const ITEMS: [Item; 67] = [
     Item::Blank,
     Item::LetterOrSpace,
     Item::Printable,
+    Item::Station,
+    Item::Blank,
+    Item::Deviation,
+    Item::Deviation,
+    Item::Correlation,
+    Item::Deviation,
+    Item::Blank,
+    Item::YesNo,
     Item::Printable,
+    Item::Station,
+    Item::Blank,
+    Item::Station,
+    Item::Blank,
+    Item::Deviation,
+    Item::Deviation,
+    Item::Correlation,
+    Item::Deviation,
+    Item::Blank,
+    Item::YesNo,
     Item::Printable,
+    Item::Variance,
+    Item::Variance,
     Item::Printable,
 ];
 
-const TIES: [Tie; 67] = [
+const TIES: [Tie; 87] = [
     Tie::Free,
     Tie::Free,
     Tie::Free,
@@ -202,9 +228,29 @@ const TIES: [Tie; 67] = [
     Tie::Free,
     Tie::Free,
     Tie::Free,
+    Tie::Free,
+    Tie::Free,
+    Tie::Free,
+    Tie::Free,
+    Tie::Free,
+    Tie::Free,
+    Tie::Free,
+    Tie::Free,
+    Tie::Standpoint,
+    Tie::Free,
+    Tie::Free,
+    Tie::Free,
+    Tie::Free,
+    Tie::Free,
+    Tie::Free,
+    Tie::Free,
+    Tie::Free,
+    Tie::Free,
+    Tie::Free,
+    Tie::Free,
 ];
 
-const FIRSTS: [u8; 67] = [
+const FIRSTS: [u8; 87] = [
     Job::TEXT as u8,
     Title::TITLE as u8,
     Continuation::TITLE as u8,
@@ -269,12 +315,32 @@ const FIRSTS: [u8; 67] = [
     Heights::THIRD_SPACER as u8,
     Heights::ELLIPSOID_DATUM as u8,
     Heights::COMMENT as u8,
-    Network::TEXT as u8,
-    Local::TEXT as u8,
-    Factor::TEXT as u8,
+    Network::STATION as u8,
+    Network::SPACER as u8,
+    Network::NORTH as u8,
+    Network::EAST as u8,
+    Network::CORRELATION as u8,
+    Network::ELLIPSOID as u8,
+    Network::SECOND_SPACER as u8,
+    Network::SCALED as u8,
+    Network::COMMENT as u8,
+    Local::STANDPOINT as u8,
+    Local::SPACER as u8,
+    Local::FOREPOINT as u8,
+    Local::SECOND_SPACER as u8,
+    Local::NORTH as u8,
+    Local::EAST as u8,
+    Local::CORRELATION as u8,
+    Local::ELLIPSOID as u8,
+    Local::THIRD_SPACER as u8,
+    Local::SCALED as u8,
+    Local::COMMENT as u8,
+    Factor::HORIZONTAL as u8,
+    Factor::VERTICAL as u8,
+    Factor::COMMENT as u8,
 ];
 
-const WIDTHS: [u8; 67] = [
+const WIDTHS: [u8; 87] = [
     Job::TEXT_WIDTH as u8,
     Title::TITLE_WIDTH as u8,
     Continuation::TITLE_WIDTH as u8,
@@ -339,13 +405,33 @@ const WIDTHS: [u8; 67] = [
     Heights::THIRD_SPACER_WIDTH as u8,
     Heights::ELLIPSOID_DATUM_WIDTH as u8,
     Heights::COMMENT_WIDTH as u8,
-    Network::TEXT_WIDTH as u8,
-    Local::TEXT_WIDTH as u8,
-    Factor::TEXT_WIDTH as u8,
+    Network::STATION_WIDTH as u8,
+    Network::SPACER_WIDTH as u8,
+    Network::NORTH_WIDTH as u8,
+    Network::EAST_WIDTH as u8,
+    Network::CORRELATION_WIDTH as u8,
+    Network::ELLIPSOID_WIDTH as u8,
+    Network::SECOND_SPACER_WIDTH as u8,
+    Network::SCALED_WIDTH as u8,
+    Network::COMMENT_WIDTH as u8,
+    Local::STANDPOINT_WIDTH as u8,
+    Local::SPACER_WIDTH as u8,
+    Local::FOREPOINT_WIDTH as u8,
+    Local::SECOND_SPACER_WIDTH as u8,
+    Local::NORTH_WIDTH as u8,
+    Local::EAST_WIDTH as u8,
+    Local::CORRELATION_WIDTH as u8,
+    Local::ELLIPSOID_WIDTH as u8,
+    Local::THIRD_SPACER_WIDTH as u8,
+    Local::SCALED_WIDTH as u8,
+    Local::COMMENT_WIDTH as u8,
+    Factor::HORIZONTAL_WIDTH as u8,
+    Factor::VERTICAL_WIDTH as u8,
+    Factor::COMMENT_WIDTH as u8,
 ];
 
 // Where the fields of each kind begin, and where the last kind's end.
-const STARTS: [u8; 15] = [0, 1, 2, 3, 13, 20, 21, 27, 34, 41, 48, 64, 65, 66, 67];
+const STARTS: [u8; 15] = [0, 1, 2, 3, 13, 20, 21, 27, 34, 41, 48, 64, 73, 84, 87];
 
 // A number of the tables as an index.
 pub fn wide(b: u8) -> usize
@@ -355,14 +441,14 @@ pub fn wide(b: u8) -> usize
 }
 
 pub fn item_at(i: usize) -> Item
-    requires { ⌜ i < 67 ⌝ }
+    requires { ⌜ i < 87 ⌝ }
     ensures { λ r. ⌜ r ≡ getD items i Item.Blank ⌝ }
 {
     ITEMS[i]
 }
 
 fn tie_at(i: usize) -> Tie
-    requires { ⌜ i < 67 ⌝ }
+    requires { ⌜ i < 87 ⌝ }
     ensures { λ r. ⌜ r ≡ getD ties i Tie.Free ⌝ }
 {
     TIES[i]
@@ -382,8 +468,15 @@ fn goes_with(first: usize, width: usize) -> Bond
     Bond::GoesWith(first as u8, width as u8)
 }
 
+fn differs(first: usize, width: usize) -> Bond
+    requires { ⌜ (first < 256) × (width < 256) ⌝ }
+    ensures { λ r. ⌜ r ≡ Bond.Differs first width ⌝ }
+{
+    Bond::Differs(first as u8, width as u8)
+}
+
 pub fn bond_at(i: usize) -> Bond
-    requires { ⌜ i < 67 ⌝ }
+    requires { ⌜ i < 87 ⌝ }
     ensures { λ r. ⌜ r ≡ getD bonds i Bond.Free ⌝ }
 {
     match tie_at(i) {
@@ -393,18 +486,19 @@ pub fn bond_at(i: usize) -> Bond
         Tie::Orthometric => goes_with(Heights::ORTHOMETRIC, Heights::ORTHOMETRIC_WIDTH),
         Tie::Geoid => goes_with(Heights::GEOID, Heights::GEOID_WIDTH),
         Tie::Ellipsoid => goes_with(Heights::ELLIPSOID, Heights::ELLIPSOID_WIDTH),
+        Tie::Standpoint => differs(Local::STANDPOINT, Local::STANDPOINT_WIDTH),
     }
 }
 
 pub fn first_at(i: usize) -> u8
-    requires { ⌜ i < 67 ⌝ }
+    requires { ⌜ i < 87 ⌝ }
     ensures { λ r. ⌜ r ≡ getD firsts i 0 ⌝ }
 {
     FIRSTS[i]
 }
 
 pub fn width_at(i: usize) -> u8
-    requires { ⌜ i < 67 ⌝ }
+    requires { ⌜ i < 87 ⌝ }
     ensures { λ r. ⌜ r ≡ getD widths i 0 ⌝ }
 {
     WIDTHS[i]

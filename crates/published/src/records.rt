@@ -11,8 +11,11 @@ use crate::text::lay_whole;
 use crate::values::Value;
 use crate::values::read_value;
 use columns::Four;
+use kinds::Factor;
 use kinds::Fault;
 use kinds::Heights;
+use kinds::Local;
+use kinds::Network;
 use kinds::Point;
 use kinds::Reading;
 use kinds::Record;
@@ -63,6 +66,9 @@ fn texts_of(what: Record) -> Texts {
     match what {
         Record::Point(r) => starts(Point::NAME, 0),
         Record::Heights(r) => starts(Heights::ORGANIZATION, Heights::COMMENT),
+        Record::Network(r) => starts(Network::COMMENT, 0),
+        Record::Local(r) => starts(Local::COMMENT, 0),
+        Record::Factor(r) => starts(Factor::COMMENT, 0),
         _ => starts(Title::TITLE, 0),
     }
 }

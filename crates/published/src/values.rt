@@ -6,11 +6,14 @@ use columns::signs::SplitLong;
 use columns::signs::split_long;
 use columns::signs::split_sign;
 use kinds::Antenna;
+use kinds::Factor;
 use kinds::Fault;
 use kinds::Heights;
 use kinds::Instrument;
 use kinds::Job;
+use kinds::Local;
 use kinds::Measurement;
+use kinds::Network;
 use kinds::Occupation;
 use kinds::Point;
 use kinds::Reading;
@@ -42,7 +45,7 @@ fn millimetres(z: i32) -> Value {
     }
 }
 
-fn angle(z: i64) -> Value {
+fn signed(z: i64) -> Value {
     match split_long(z) {
         SplitLong::Plus(n) => Value::Whole(false, n),
         SplitLong::Minus(n) => Value::Whole(true, n),
@@ -120,10 +123,10 @@ fn of_point(r: Point, column: usize) -> Value {
         return counted(r.station);
     }
     if column == Point::LATITUDE {
-        return angle(r.latitude);
+        return signed(r.latitude);
     }
     if column == Point::LONGITUDE {
-        return angle(r.longitude);
+        return signed(r.longitude);
     }
     Value::Absent
 }
@@ -156,6 +159,39 @@ fn of_heights(r: Heights, column: usize) -> Value {
     }
 }
 
+fn of_network(r: Network, column: usize) -> Value {
+    match column {
+        Network::STATION => counted(r.station),
+        Network::NORTH => Value::Whole(false, r.north),
+        Network::EAST => Value::Whole(false, r.east),
+        Network::CORRELATION => signed(r.correlation),
+        Network::ELLIPSOID => Value::Whole(false, r.ellipsoid),
+        Network::SCALED => one(r.scaled),
+        _ => Value::Absent,
+    }
+}
+
+fn of_local(r: Local, column: usize) -> Value {
+    match column {
+        Local::STANDPOINT => counted(r.standpoint),
+        Local::FOREPOINT => counted(r.forepoint),
+        Local::NORTH => Value::Whole(false, r.north),
+        Local::EAST => Value::Whole(false, r.east),
+        Local::CORRELATION => signed(r.correlation),
+        Local::ELLIPSOID => Value::Whole(false, r.ellipsoid),
+        Local::SCALED => one(r.scaled),
+        _ => Value::Absent,
+    }
+}
+
+fn of_factor(r: Factor, column: usize) -> Value {
+    match column {
+        Factor::HORIZONTAL => counted(r.horizontal),
+        Factor::VERTICAL => counted(r.vertical),
+        _ => Value::Absent,
+    }
+}
+
 // The other kinds have only texts, months and codes that no example asks for.
 fn of_record(what: Record, column: usize) -> Value {
     match what {
@@ -166,6 +202,9 @@ fn of_record(what: Record, column: usize) -> Value {
         Record::Antenna(r) => of_antenna(r, column),
         Record::Point(r) => of_point(r, column),
         Record::Heights(r) => of_heights(r, column),
+        Record::Network(r) => of_network(r, column),
+        Record::Local(r) => of_local(r, column),
+        Record::Factor(r) => of_factor(r, column),
         _ => Value::Absent,
     }
 }

@@ -7,14 +7,14 @@ use native.Mathlib.Omega.{arith}
 use lib.Dec.{leb, eqb}
 use lib.ListN.{length, getD, take, drop, replicate, getD-replicate}
 use lib.Seq.{getD-drop}
-use borrow.Author.Tests.{leb-true, eqb-true}
+use borrow.Author.Tests.{eqb-true}
 use Rattle.rules.specs.Tests.{_&_, _≤?_, _=?_, all}
 use Rattle.rules.specs.Fields.{Expect, meets}
-use Rattle.rules.proofs.Truth.{to≤, no≤, to≡, no≡, cases, above-0, both-true}
+use Rattle.rules.proofs.Truth.{to≤, no≤, cases, above-0, both-true}
 use Rattle.kinds.specs.Tables.{rowLists}
 use Rattle.quick.specs.Rows.{classTable, colAt, fiveAt, Columns, textAt, fiveTexts, Texts, isText}
-use Rattle.quick.specs.Rest.{lowVal, some, between, notZero, mediaRest, zeros, alike, datumRest, latitudeRest, longitudeRest, sequenceRest, itemRest, bondRest, restFrom, Fit}
-use Rattle.quick.proofs.ClassLaws.{one-true, spread, spread-is}
+use Rattle.quick.specs.Rest.{lowVal, some, between, notZero, mediaRest, zeros, alike, datumRest, latitudeRest, longitudeRest, correlationRest, sequenceRest, itemRest, bondRest, restFrom, Fit}
+use Rattle.quick.proofs.ClassLaws.{spread, spread-is}
 use Rattle.quick.proofs.KindLaws.{fits-ok, row-from}
 
 -- ---- the row: sixteen turns of five columns
@@ -133,6 +133,10 @@ module _ (l : List ℕ) (at : ℕ) where
   unfolding mediaRest
   day-is d e f = rw (e, f)
 
+  pub correlation-is : (leb (getD l (at + 2) 0) 56 || leb (getD l (at + 3) 0) 56 || not (eqb (getD l at 0) 45) && not (eqb (getD l (at + 1) 0) 45)) ≡ correlationRest l at
+  unfolding correlationRest
+  correlation-is = refl
+
   pub datum-is : {a b c : Bool} → a ≡ alike l at (at + 1) → b ≡ between (getD l at 0) → c ≡ between (getD l (at + 1) 0) → (a && not b && not c) ≡ datumRest l at
   unfolding datumRest
   datum-is p q r = rw (p, q, r)
@@ -170,28 +174,26 @@ module _ (e : Expect) (l : List ℕ) where
   unfolding restFrom itemRest bondRest
   heights-is p q r s t u v w x y = rw (p, r, q, s, t, u, v, w, x, y)
 
+  pub network-is : {a b : Bool} → a ≡ notZero l 10 4 → b ≡ correlationRest l 40 → (a && b) ≡ restFrom true e l (getD rowLists 11 [])
+  unfolding restFrom itemRest bondRest
+  network-is p q = rw (p, q)
+
+  pub local-is : {a b c : Bool} {m n : ℕ} → a ≡ notZero l 10 4 → b ≡ notZero l 16 4 → m ≡ lowVal 0 (take 4 (drop 10 l)) → n ≡ lowVal 0 (take 4 (drop 16 l)) → c ≡ correlationRest l 42
+      → (a && b && not (eqb m n) && c) ≡ restFrom true e l (getD rowLists 12 [])
+  unfolding restFrom itemRest bondRest
+  local-is p q r s t = rw (p, q, r, s, t)
+
   pub kind-rest : (kind j : ℕ) → kind ≡ j → (t : Bool) → t ≡ restFrom true e l (getD rowLists j []) → t ≡ true → restFrom true e l (getD rowLists kind []) ≡ true
   kind-rest kind j z t h k = rw z (sym h ∙ k)
 
--- ---- kinds that are all text, as *26* is
-pub text-rest : (j : ℕ) → getD rowLists j [] ≡ getD rowLists 5 [] → (e : Expect) (l : List ℕ) (kind : ℕ) → kind ≡ j → true ≡ true → restFrom true e l (getD rowLists kind []) ≡ true
+-- ---- the kind that is all text, *26*
+pub text-rest : (e : Expect) (l : List ℕ) (kind : ℕ) → kind ≡ 5 → true ≡ true → restFrom true e l (getD rowLists kind []) ≡ true
 unfolding restFrom itemRest bondRest
-text-rest j r e l kind z t = rw (z, r)
-
-text-row : (j : ℕ) → getD classTable j [] ≡ getD classTable 5 [] → (k : ℕ) → k ≡ j → TextFrom17 (getD classTable k [])
-text-row j c k z = rw (z, c) record { low = refl; high = refl; free = refl }
+text-rest e l kind z t = rw z
 
 text-kind : (k : ℕ) → isText k ≡ true → TextFrom17 (getD classTable k [])
 unfolding isText
-text-kind k h =
-    one-true (eqb k 5) (leb 11 k && leb k 13) h (λ e. text-row 5 refl k (eqb-true k 5 e))
-    (λ e. let x = both-true (leb 11 k) (leb k 13) e in
-    cases (k =? 11) (λ f. text-row 11 refl k (to≡ f))
-    (λ f. cases (k =? 12) (λ g. text-row 12 refl k (to≡ g))
-    (λ g. text-row 13 refl k (last (leb-true 11 k (x .0)) (leb-true k 13 (x .1)) (no≡ f) (no≡ g)))))
-  where
-    last : 11 ≤ k → k ≤ 13 → (k ≡ 11 → ⊥) → (k ≡ 12 → ⊥) → k ≡ 13
-    last lo hi f g = omega arith
+text-kind k h = rw (eqb-true k 5 h) record { low = refl; high = refl; free = refl }
 
 -- ---- the columns, and the whole
 module _ (l : List ℕ) (k : ℕ) (t : List (List (List ℕ))) (c : t ≡ classTable) where

@@ -19,7 +19,7 @@ use Rattle.quick.specs.Rows.{Class, inClass, rowOk, run, texts, layoutRo
 use Rattle.quick.specs.Rest.{sequenceRest, restFrom, Fit}
 use Rattle.quick.proofs.ClassLaws.{one-true, admits, in-class, row-split, columns-row, sameRow, sameClass}
 use Rattle.quick.proofs.NumberLaws.{even, sequence-ok}
-use Rattle.quick.proofs.RecordLaws.{asked, height, bound, laid, rows-ok}
+use Rattle.quick.proofs.RecordLaws.{asked, height, counted, bound, laid, rows-ok}
 
 -- ---- a class of printable characters
 unfoldable fair : Class → Bool
@@ -49,7 +49,7 @@ unfoldable tidy : List Row → Bool
 tidy rs = length (kindRow rs) =? 80 & all fair (kindRow rs) & laid (kindRow rs) 10 rs
 
 all-tidy : all tidy rowLists ≡ true
-unfolding tidy all fair laid asked bound height sameRow sameClass admits even inClass isDigit within _&_ _≤?_ _=?_
+unfolding tidy all fair laid asked bound height counted sameRow sameClass admits even inClass isDigit within _&_ _≤?_ _=?_
 all-tidy = refl
 
 map-at : {A : Type 0} {B : Type 0} (f : A → B) (l : List A) (d : A) (e : B) (k : ℕ) → k < length l → getD (map f l) k e ≡ f (getD l k d)

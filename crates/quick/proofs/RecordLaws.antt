@@ -11,7 +11,7 @@ use Rattle.rules.specs.Tests.{_&_, _≤?_, _=?_, within, all}
 use Rattle.rules.specs.Characters.{isBlank}
 use Rattle.rules.specs.Items.{number, good}
 use Rattle.rules.specs.Fields.{Expect, isOk, sameTruth, meets, check, _⨾_}
-use Rattle.rules.proofs.Truth.{both, and, to≤, to≡, to-within, and-true, both-true}
+use Rattle.rules.proofs.Truth.{both, and, to≤, of≤, to≡, to-within, and-true, both-true}
 use Rattle.rules.proofs.FieldLaws.{isOk-⨾}
 use Rattle.columns.specs.Types.{setOf}
 use Rattle.kinds.specs.declared.tables.Item.{Item}
@@ -21,10 +21,10 @@ use Rattle.kinds.specs.declared.tables.Bond.the-variants as B
 use Rattle.kinds.specs.Tables.{itemOf, Row}
 use Rattle.judging.specs.Judging.{part, numberIn, agreesIn, judgeRow, judgeRows}
 use Rattle.quick.specs.Rows.{Class, run, rowOk, rowOf, layoutRow}
-use Rattle.quick.specs.Rest.{lowVal, some, between, notZero, mediaRest, zeros, latitudeRest, longitudeRest, alike, datumRest, itemRest, bondRest, restFrom}
+use Rattle.quick.specs.Rest.{lowVal, some, between, notZero, mediaRest, zeros, latitudeRest, longitudeRest, alike, datumRest, correlationRest, itemRest, bondRest, restFrom}
 use Rattle.quick.proofs.ClassLaws.{admits, all-columns, row-split, row-part, sameRow, same-row}
-use Rattle.quick.proofs.NumberLaws.{even, number-even, number-ok, some-val, low-val, metres-ok, metres-tell, rise-ok}
-use Rattle.quick.proofs.WordLaws.{blank-ok, letters-ok, spaced-ok, yes-no-ok, texts-ok, one-ok, pair-ok, datum-ok, media-ok}
+use Rattle.quick.proofs.NumberLaws.{even, number-even, number-ok, nought-ok, some-val, low-val, metres-ok, metres-tell, rise-ok, correlation-ok}
+use Rattle.quick.proofs.WordLaws.{blank-ok, letters-ok, spaced-ok, yes-or-no-ok, yes-no-ok, texts-ok, one-ok, pair-ok, datum-ok, media-ok}
 use Rattle.quick.proofs.AngleLaws.{latitude-ok, longitude-ok}
 
 -- ---- the widths that rows are made for: one computed test
@@ -37,6 +37,9 @@ asked I.Date w = w =? 6
 asked I.Time w = w =? 4
 asked I.Rise w = w =? 5
 asked I.Metres w = w =? 7
+asked I.Deviation w = w =? 10
+asked I.Correlation w = w =? 10
+asked I.Variance w = true
 asked I.Month w = true
 asked I.Media w = w =? 10
 asked I.Latitude w = w =? 12
@@ -44,6 +47,7 @@ asked I.Longitude w = w =? 13
 asked I.Letter w = true
 asked I.LetterOrSpace w = true
 asked I.LetterOrDigitOrSpace w = w =? 1
+asked I.YesNo w = true
 asked I.YesNoOrSpace w = true
 asked I.Pair w = w =? 2
 asked I.Datum w = w =? 2
@@ -75,6 +79,10 @@ longitude-drop : (l : List ℕ) (a : ℕ) → longitudeRest l a ≡ true → lon
 unfolding longitudeRest zeros
 longitude-drop l a h = rw (at-0 l a, getD-drop a l 1 0, drop-drop 2 a l) h
 
+correlation-drop : (l : List ℕ) (a : ℕ) → correlationRest l a ≡ true → correlationRest (drop a l) 0 ≡ true
+unfolding correlationRest
+correlation-drop l a h = rw (at-0 l a, getD-drop a l 1 0, getD-drop a l 2 0, getD-drop a l 3 0) h
+
 -- ---- one item: the row, and what it leaves
 pub record Both (g h : Bool) : Type 0 where
   pub before : g ≡ true
@@ -100,17 +108,21 @@ item-ok I.Blank w l a g q n h t = record { before = t; here = blank-ok w (drop a
 item-ok I.Method w l a g q n h t = absurd (false≢true t)
 item-ok I.Month w l a g q n h t = absurd (false≢true t)
 item-ok I.Title w l a g q n h t = absurd (false≢true t)
+item-ok I.Variance w l a g q n h t = absurd (false≢true t)
 item-ok I.Name w l a g q n h t = absurd (false≢true t)
 item-ok I.Printable w l a g q n h t = record { before = t; here = texts-ok w (drop a l) n h }
 item-ok I.Letter w l a g q n h t = record { before = t; here = letters-ok w (drop a l) n h }
 item-ok I.LetterOrSpace w l a g q n h t = record { before = t; here = spaced-ok w (drop a l) n h }
+item-ok I.YesNo w l a g q n h t = record { before = t; here = yes-or-no-ok w (drop a l) n h }
 item-ok I.YesNoOrSpace w l a g q n h t = record { before = t; here = yes-no-ok w (drop a l) n h }
 item-ok I.Station w l a g q n h t = number-some 3 9_999 refl w (to≡ q) l a g n h t
 item-ok I.Equipment w l a g q n h t = number-some 2 999 refl w (to≡ q) l a g n h t
 item-ok I.Date w l a g q n h t = record { before = t; here = number-any 5 999_999 refl w (to≡ q) l a n h }
 item-ok I.Time w l a g q n h t = record { before = t; here = number-any 3 9_999 refl w (to≡ q) l a n h }
-item-ok I.Rise w l a g q n h t = let e : w ≡ 5 = to≡ q in record { before = t; here = rw e (rise-ok 4 (drop a l) (rw e at n) (rw e at h)) }
-item-ok I.Metres w l a g q n h t = let e : w ≡ 7 = to≡ q in record { before = t; here = rw e (metres-ok 6 (drop a l) (rw e at n) (rw e at h)) }
+item-ok I.Rise w l a g q n h t = let e : w ≡ 5 = to≡ q in record { before = t; here = rw e (rise-ok 4 (drop a l) (rw e at n) 9_999 99_999 refl refl (rw e at h)) }
+item-ok I.Metres w l a g q n h t = let e : w ≡ 7 = to≡ q in record { before = t; here = rw e (metres-ok 6 (drop a l) (rw e at n) 999_999 9_999_999 refl refl (rw e at h)) }
+item-ok I.Deviation w l a g q n h t = let e : w ≡ 10 = to≡ q in record { before = t; here = rw e (nought-ok 8 999_999_999 refl (drop a l) (rw e at n) (rw e at h)) }
+item-ok I.Correlation w l a g q n h t = let e : w ≡ 10 = to≡ q in let p = both-true g (correlationRest l a) t in record { before = p .0; here = rw e (correlation-ok (drop a l) (rw e at n) (rw e at h) (correlation-drop l a (p .1))) }
 item-ok I.Media w l a g q n h t = let e : w ≡ 10 = to≡ q in let p = both-true g (mediaRest l a) t in record { before = p .0; here = rw e (media-ok (drop a l) h (media-drop l a (p .1))) }
 item-ok I.Latitude w l a g q n h t = let e : w ≡ 12 = to≡ q in let p = both-true g (latitudeRest l a) t in record { before = p .0; here = rw e (latitude-ok (drop a l) h (latitude-drop l a (p .1))) }
 item-ok I.Longitude w l a g q n h t = let e : w ≡ 13 = to≡ q in let p = both-true g (longitudeRest l a) t in record { before = p .0; here = rw e (longitude-ok (drop a l) h (longitude-drop l a (p .1))) }
@@ -123,12 +135,17 @@ item-ok I.Datum w l a g q n h t = let e : w ≡ 2 = to≡ q in let p = both-true
 unfoldable pub height : List Class → ℕ → ℕ → Bool
 height ks c v = within 1 80 c & 1 ≤? v & c + v ≤? 81 & sameRow (take v (drop (c - 1) ks)) (run 45 32 v)
 
+-- a number that is not missing stands there
+unfoldable pub counted : List Class → ℕ → ℕ → Bool
+counted ks c v = within 1 80 c & within 1 16 v & c + v ≤? 81 & sameRow (take v (drop (c - 1) ks)) (run 32 48 v)
+
 -- what is compared as a number is read alike by the last four bits; what goes with a height has one column
 unfoldable pub bound : List Class → Bond → Item → ℕ → Bool
 bound ks B.Free i w = true
 bound ks B.Expected i w = all (admits even) (rowOf i w) & w ≤? 16
 bound ks (B.NotBefore c v) i w = true
 bound ks (B.GoesWith c v) i w = height ks c v & w =? 1
+bound ks (B.Differs c v) i w = counted ks c v & (all (admits even) (rowOf i w) & w ≤? 16)
 
 -- a height tells by its last column whether it is missing
 height-tells : (ks : List Class) (l : List ℕ) (c v : ℕ) → 80 ≤ length l → rowOk ks l ≡ true → height ks c v ≡ true → all isBlank (part c v l) ≡ eqb (getD l (c + v - 2) 0) 32
@@ -163,6 +180,21 @@ number-is l a w i q m n h =
     let few : length B ≤? 16 ≡ true = rw n (both q .1) in
     low-val 0 B same ∙ sym (rw few)
 
+-- an earlier number, by the last four bits
+number-before : (ks : List Class) (l : List ℕ) (c v : ℕ) → 80 ≤ length l → rowOk ks l ≡ true → counted ks c v ≡ true → lowVal 0 (part c v l) ≡ numberIn (part c v l)
+unfolding counted
+number-before ks l c zero long h q = absurd (omega (arith, to-within (both (both (both q .0) .0) .1)))
+number-before ks l c (suc v) long h q =
+    let t = both (both (both q .0) .0) in
+    let wide = to-within (t .1) in
+    let n : length (take (suc v) (drop (c - 1) l)) ≡ suc v = length-take-le (suc v) (drop (c - 1) l) (rw length-drop (omega (arith, to-within (t .0), to≤ (both (both q .0) .1)))) in
+    let few : length (part c (suc v) l) ≤? 16 ≡ true = of≤ (omega (arith, n, wide)) in
+    low-val 0 (part c (suc v) l) (number-even v (drop (c - 1) l) n (same-row _ _ (both q .1) (drop (c - 1) l) (row-part (c - 1) (suc v) ks l h))) ∙ sym (rw few)
+
+apart-is : {a b c d : ℕ} → a ≡ b → c ≡ d → not (eqb a c) ≡ true → not (b =? d) ≡ true
+unfolding _=?_
+apart-is p q h = rw (p, q) at h
+
 bond-ok : (e : Expect) (ks : List Class) (l : List ℕ) → 80 ≤ length l → rowOk ks l ≡ true → (b : Bond) (i : Item) (w a : ℕ) (g : Bool) → bound ks b i w ≡ true → length (rowOf i w) ≡ w
     → length (take w (drop a l)) ≡ w → rowOk (rowOf i w) (drop a l) ≡ true → bondRest g e b a w l ≡ true → Both g (agreesIn e l b (take w (drop a l)))
 unfolding bound bondRest agreesIn
@@ -172,6 +204,9 @@ bond-ok e ks l long o B.Expected i w a g q m n h t =
     record { before = p .0; here = sym (ap (meets e) (number-is l a w i q m n h)) ∙ p .1 }
 bond-ok e ks l long o (B.NotBefore c v) i w a g q m n h t = absurd (false≢true t)
 bond-ok e ks l long o (B.GoesWith c v) i w a g q m n h t = alike-is g l (c + v - 2) a w (all isBlank (part c v l)) (height-tells ks l c v long o (both q .0)) (to≡ (both q .1)) n t
+bond-ok e ks l long o (B.Differs c v) i w a g q m n h t =
+    let p = both-true g (not (eqb (lowVal 0 (take v (drop (c - 1) l))) (lowVal 0 (take w (drop a l))))) t in
+    record { before = p .0; here = apart-is (number-before ks l c v long o (both q .0)) (number-is l a w i (both q .1) m n h) (p .1) }
 
 -- ---- all rows of a record with the row ks
 unfoldable pub laid : List Class → ℕ → List Row → Bool

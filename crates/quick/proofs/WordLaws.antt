@@ -15,7 +15,7 @@ use Rattle.rules.specs.Fields.{sameTruth}
 use Rattle.rules.proofs.Truth.{and, of≤, of≡, of-within, to-within, all-replicate, both-true}
 use Rattle.columns.proofs.ItemLaws.{good-blank, good-each, good-or-blank}
 use Rattle.kinds.specs.declared.tables.Item.the-variants as I
-use Rattle.quick.specs.Rows.{Class, blanks, texts, letters, spaced, wideSpaced, pairs, answers, inClass, rowOk, rowOf}
+use Rattle.quick.specs.Rows.{Class, blanks, texts, letters, spaced, wideSpaced, pairs, yesNo, answers, inClass, rowOk, rowOf}
 use Rattle.quick.specs.Rest.{lowVal, between, mediaRest, alike, datumRest}
 use Rattle.quick.proofs.ClassLaws.{one-true, admits, all-columns, column-is, row-within, spread, spread-is}
 use Rattle.quick.proofs.NumberLaws.{even, low-val}
@@ -40,6 +40,10 @@ module _ (w : ℕ) (bs : List ℕ) (n : length (take w bs) ≡ w) where
   pub spaced-ok : rowOk (replicate w spaced) bs ≡ true → good (word w (each (letter or space))) (take w bs) ≡ true
   unfolding admits inClass all member isLetter isBlank within _&_ _≤?_ _=?_
   spaced-ok = each-ok (letter or space) spaced refl
+
+  pub yes-or-no-ok : rowOk (replicate w yesNo) bs ≡ true → good (word w (each (only 89 or only 78))) (take w bs) ≡ true
+  unfolding admits inClass all member isPrintable within _&_ _≤?_ _=?_
+  yes-or-no-ok = each-ok (only 89 or only 78) yesNo refl
 
   pub yes-no-ok : rowOk (replicate w answers) bs ≡ true → good (word w (each (only 89 or only 78 or space))) (take w bs) ≡ true
   unfolding admits inClass all member isBlank isPrintable within _&_ _≤?_ _=?_

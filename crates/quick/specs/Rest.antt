@@ -58,6 +58,10 @@ alike l a b = sameTruth (eqb (getD l a 0) 32) (eqb (getD l b 0) 32)
 unfoldable pub datumRest : List ℕ → ℕ → Bool
 datumRest l a = alike l a (a + 1) && not (between (getD l a 0)) && not (between (getD l (a + 1) 0))
 
+-- a correlation of ten columns, the first two no digit but 0: less than .99, or without a minus before its digits (001, *91* *92*)
+unfoldable pub correlationRest : List ℕ → ℕ → Bool
+correlationRest l a = leb (getD l (a + 2) 0) 56 || leb (getD l (a + 3) 0) 56 || not (eqb (getD l a 0) 45) && not (eqb (getD l (a + 1) 0) 45)
+
 -- the sequence number: blank, or not 0 (01, columns 1-6)
 unfoldable pub sequenceRest : List ℕ → Bool
 sequenceRest l = notZero l 0 6 || eqb (getD l 5 0) 32
@@ -72,6 +76,9 @@ itemRest g I.Date a w l = g
 itemRest g I.Time a w l = g
 itemRest g I.Rise a w l = g
 itemRest g I.Metres a w l = g
+itemRest g I.Deviation a w l = g
+itemRest g I.Correlation a w l = g && correlationRest l a
+itemRest g I.Variance a w l = false
 itemRest g I.Month a w l = false
 itemRest g I.Media a w l = g && mediaRest l a
 itemRest g I.Latitude a w l = g && latitudeRest l a
@@ -79,6 +86,7 @@ itemRest g I.Longitude a w l = g && longitudeRest l a
 itemRest g I.Letter a w l = g
 itemRest g I.LetterOrSpace a w l = g
 itemRest g I.LetterOrDigitOrSpace a w l = g && not (between (getD l a 0))
+itemRest g I.YesNo a w l = g
 itemRest g I.YesNoOrSpace a w l = g
 itemRest g I.Pair a w l = g && alike l a (a + 1)
 itemRest g I.Datum a w l = g && datumRest l a
@@ -92,6 +100,7 @@ bondRest g e B.Free a w l = g
 bondRest g e B.Expected a w l = g && meets e (lowVal 0 (take w (drop a l)))
 bondRest g e (B.NotBefore c v) a w l = false
 bondRest g e (B.GoesWith c v) a w l = g && alike l (c + v - 2) a
+bondRest g e (B.Differs c v) a w l = g && not (eqb (lowVal 0 (take v (drop (c - 1) l))) (lowVal 0 (take w (drop a l))))
 
 -- g, and what is left of the fields of a record
 unfoldable pub restFrom : Bool → Expect → List ℕ → List Row → Bool

@@ -2,7 +2,7 @@
 use mathlib.Core.Path.{_≡_}
 use mathlib.Core.Bool.{Bool, true, false, _&&_, _||_}
 use mathlib.Core.List.{List, [], _∷_, _++_, map}
-use Prim.Native.Nat.{ℕ, zero, suc, _+_, _<_}
+use Prim.Native.Nat.{ℕ, zero, suc, _+_, _-_, _<_}
 use lib.Dec.{leb, eqb}
 use lib.ListN.{getD, replicate}
 use Rattle.rules.specs.Tests.{_&_}
@@ -76,7 +76,11 @@ wideSpaced = span 48 90 48 32
 abbrev pub pairs : Class
 pairs = span 48 57 48 32
 
--- "Y or N", or blank
+-- "Y or N"
+abbrev pub yesNo : Class
+yesNo = span 89 89 78 78
+
+-- the same, or blank
 abbrev pub answers : Class
 answers = span 89 89 78 32
 
@@ -85,6 +89,10 @@ abbrev pub run : (mark last : ℕ) → ℕ → List Class
 run mark last zero = []
 run mark last (suc zero) = span 48 57 48 last ∷ []
 run mark last (suc (suc w)) = class 48 57 mark 32 32 ∷ run mark last (suc w)
+
+-- the first column of a number that may not fill its columns: a zero, the mark or a blank
+abbrev pub nought : (mark : ℕ) → Class
+nought mark = class 48 48 mark 32 32
 
 -- "Angle": degrees, then minutes and seconds with five decimals, then one of two letters
 abbrev pub angles : List Class → (positive negative : ℕ) → List Class
@@ -100,6 +108,9 @@ rowOf I.Date w = run 32 48 w
 rowOf I.Time w = run 32 48 w
 rowOf I.Rise w = run 45 48 w
 rowOf I.Metres w = run 45 32 w
+rowOf I.Deviation w = nought 32 ∷ run 32 48 (w - 1)
+rowOf I.Correlation w = nought 45 ∷ nought 45 ∷ run 45 48 (w - 2)
+rowOf I.Variance w = replicate w texts
 rowOf I.Month w = replicate w texts
 rowOf I.Media w = letters ∷ digits ∷ digits ∷ digits ∷ digits ∷ wide ∷ texts ∷ texts ∷ texts ∷ texts ∷ []
 rowOf I.Latitude w = angles (digits ∷ digits ∷ []) 78 83
@@ -107,6 +118,7 @@ rowOf I.Longitude w = angles (digits ∷ digits ∷ digits ∷ []) 69 87
 rowOf I.Letter w = replicate w letters
 rowOf I.LetterOrSpace w = replicate w spaced
 rowOf I.LetterOrDigitOrSpace w = replicate w wideSpaced
+rowOf I.YesNo w = replicate w yesNo
 rowOf I.YesNoOrSpace w = replicate w answers
 rowOf I.Pair w = replicate w pairs
 rowOf I.Datum w = replicate w wideSpaced
@@ -165,6 +177,6 @@ pub record Texts (row : List (List ℕ)) (l : List ℕ) : Type 0 where
   pub first : (j : ℕ) → j < 16 → colAt row l j ≡ true
   pub all : (j : ℕ) → j < 80 → textAt l j ≡ true
 
--- *26*, *91*, *92*, *93*
+-- *26*
 unfoldable pub isText : ℕ → Bool
-isText k = eqb k 5 || leb 11 k && leb k 13
+isText k = eqb k 5

@@ -75,7 +75,7 @@ fn fits_texts(line: &[u8], row: &[[u8; 80]; 5]) -> bool
 fn is_text_kind(kind: usize) -> bool
     ensures { λ r. ⌜ r ≡ isText kind ⌝ }
 {
-    (kind == 5) | ((11 <= kind) & (kind <= 13))
+    kind == 5
 }
 
 // Every column of a line of a kind.

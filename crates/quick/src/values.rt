@@ -11,7 +11,7 @@ ghost use Prim.Native.Nat.{_+_, _%_, _≤_, _<_};
 ghost use lib.ListN.{length, take, drop, getD};
 ghost use Rattle.kinds.specs.Tables.{rowLists};
 ghost use Rattle.kinds.specs.Values.{expectOf};
-ghost use Rattle.quick.specs.Rest.{lowVal, notZero, between, mediaRest, zeros, latitudeRest, longitudeRest, alike, datumRest, sequenceRest, restFrom};
+ghost use Rattle.quick.specs.Rest.{lowVal, notZero, between, mediaRest, zeros, latitudeRest, longitudeRest, alike, datumRest, correlationRest, sequenceRest, restFrom};
 
 // The last four bits of a digit are its value, and those of a blank are 0.
 fn digit(b: u8) -> u64
@@ -125,6 +125,14 @@ fn has_datum(line: &[u8], at: usize) -> bool
     are_alike(line, at, at + 1) & !is_between(line[at]) & !is_between(line[at + 1])
 }
 
+// Above -0.99, which is what nearly all are; the exact judge has the others.
+fn has_correlation(line: &[u8], at: usize) -> bool
+    requires { ⌜ at + 10 ≤ length (now line) ⌝ }
+    ensures { λ r. ⌜ r ≡ correlationRest (now (line .entry)) at ⌝ }
+{
+    (line[at + 2] <= 56) | (line[at + 3] <= 56) | ((line[at] != 45) & (line[at + 1] != 45))
+}
+
 fn has_occupation(line: &[u8], e: Expect) -> bool
     requires { ⌜ 80 < length (now line) ⌝ }
     ensures { λ r. ⌜ r ≡ restFrom true (expectOf e) (now (line .entry)) (getD rowLists 4 []) ⌝ }
@@ -175,7 +183,24 @@ fn has_heights(line: &[u8], e: Expect) -> bool
         & are_alike(line, 51, 52)
 }
 
-// Of a record of a kind. Where all is text there is nothing to add; *10*, *11* and *12* come once in a file, and the exact judge has them.
+fn has_network(line: &[u8], e: Expect) -> bool
+    requires { ⌜ 80 < length (now line) ⌝ }
+    ensures { λ r. ⌜ r ≡ restFrom true (expectOf e) (now (line .entry)) (getD rowLists 11 []) ⌝ }
+{
+    has_four(line, 10) & has_correlation(line, 40)
+}
+
+fn has_local(line: &[u8], e: Expect) -> bool
+    requires { ⌜ 80 < length (now line) ⌝ }
+    ensures { λ r. ⌜ r ≡ restFrom true (expectOf e) (now (line .entry)) (getD rowLists 12 []) ⌝ }
+{
+    has_four(line, 10)
+        & has_four(line, 16)
+        & (read_four(line, 10) != read_four(line, 16))
+        & has_correlation(line, 42)
+}
+
+// Of a record of a kind. Where all is text there is nothing to add; *10*, *11*, *12* and *93* come once in a file, and the exact judge has them.
 pub(crate) fn has_values(line: &[u8], kind: usize, e: Expect) -> bool
     requires { ⌜ 80 < length (now line) ⌝ }
     ensures { λ r. ⌜ (r ≡ true → restFrom true (expectOf e) (now (line .entry)) (getD rowLists kind []) ≡ true) ⌝ }
@@ -188,9 +213,8 @@ pub(crate) fn has_values(line: &[u8], kind: usize, e: Expect) -> bool
         8 => has_antenna(line, e),
         9 => has_point(line, e),
         10 => has_heights(line, e),
-        11 => true,
-        12 => true,
-        13 => true,
+        11 => has_network(line, e),
+        12 => has_local(line, e),
         _ => false,
     }
 }

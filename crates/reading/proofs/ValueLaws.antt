@@ -8,13 +8,16 @@ use native.Mathlib.Omega.{arith}
 use lib.IntN.{ℤ, pos, negsuc}
 use lib.Dec.{lit≤}
 use lib.ListN.{length, take, drop, getD}
-use Rattle.rules.specs.Tests.{_≤?_}
+use Rattle.rules.specs.Tests.{_≤?_, all}
+use Rattle.rules.specs.Characters.{isBlank}
+use Rattle.rules.specs.Digits.{val}
 use Rattle.rules.specs.Items.{Value, gap, missing, num, text, label, month, media, columns, width, valueOf, number, height, angle}
 use Rattle.rules.specs.Fields.{columnsOf, values}
 use Rattle.rules.specs.Layouts.{station, instrument, antenna, initials, state, layouts}
 use Rattle.rules.specs.Records.{sequence, codeAt}
-use Rattle.rules.proofs.Truth.{of≤}
+use Rattle.rules.proofs.Truth.{of≤, cases}
 use Rattle.rules.proofs.FileLaws.{length-take-most}
+use Rattle.columns.proofs.ValueLaws.{blank-val}
 use Rattle.columns.specs.declared.Count.{Count}
 use Rattle.columns.specs.declared.Height.{Height}
 use Rattle.columns.specs.Types.{natOf, intOf, heightOf, countOf, mediaOf, four, wayOf}
@@ -31,11 +34,14 @@ use Rattle.kinds.specs.declared.Antenna.{Antenna}
 use Rattle.kinds.specs.declared.Measurement.{Measurement}
 use Rattle.kinds.specs.declared.Point.{Point}
 use Rattle.kinds.specs.declared.Heights.{Heights}
+use Rattle.kinds.specs.declared.Network.{Network}
+use Rattle.kinds.specs.declared.Local.{Local}
+use Rattle.kinds.specs.declared.Factor.{Factor}
 use Rattle.columns.specs.declared.Way.{Way}
 use Rattle.kinds.specs.declared.Record.{Record}
 use Rattle.kinds.specs.declared.Record.the-variants as R
 use Rattle.kinds.specs.Values.{textOf, charOf, two, three, sequenceOf, recordFrom}
-use Rattle.reading.specs.Values.{natIn, monthIn, heightIn, riseIn, jobIn, projectIn, occupationIn, measurementIn, instrumentIn, antennaIn, pointIn, heightsIn, recordIn}
+use Rattle.reading.specs.Values.{natIn, monthIn, heightIn, signedIn, jobIn, projectIn, occupationIn, measurementIn, instrumentIn, antennaIn, pointIn, heightsIn, networkIn, localIn, factorIn, recordIn}
 
 -- ---- each kind
 module _ (l : List ℕ) where
@@ -52,7 +58,7 @@ module _ (l : List ℕ) where
   occupation-is = refl
 
   pub measurement-is : R.Measurement (measurementIn l) ≡ recordIn 6 l
-  unfolding measurementIn natIn riseIn recordIn recordFrom values layouts columnsOf width valueOf
+  unfolding measurementIn natIn signedIn recordIn recordFrom values layouts columnsOf width valueOf
   measurement-is = refl
 
   pub instrument-is : R.Instrument (instrumentIn l) ≡ recordIn 7 l
@@ -71,6 +77,18 @@ module _ (l : List ℕ) where
   unfolding heightsIn natIn heightIn recordIn recordFrom values layouts columnsOf width valueOf textOf charOf
   heights-is = refl
 
+  pub network-is : R.Network (networkIn l) ≡ recordIn 11 l
+  unfolding networkIn natIn signedIn recordIn recordFrom values layouts columnsOf width valueOf textOf charOf
+  network-is = refl
+
+  pub local-is : R.Local (localIn l) ≡ recordIn 12 l
+  unfolding localIn natIn signedIn recordIn recordFrom values layouts columnsOf width valueOf textOf charOf
+  local-is = refl
+
+  pub factor-is : R.Factor (factorIn l) ≡ recordIn 13 l
+  unfolding factorIn natIn recordIn recordFrom values layouts columnsOf width valueOf
+  factor-is = refl
+
 -- the kinds with a text and nothing else
 pub title-is : (l : List ℕ) → R.Title record {} ≡ recordIn 1 l
 unfolding recordIn recordFrom
@@ -83,18 +101,6 @@ continuation-is l = refl
 pub comment-is : (l : List ℕ) → R.Comment record {} ≡ recordIn 5 l
 unfolding recordIn recordFrom
 comment-is l = refl
-
-pub network-is : (l : List ℕ) → R.Network record {} ≡ recordIn 11 l
-unfolding recordIn recordFrom
-network-is l = refl
-
-pub local-is : (l : List ℕ) → R.Local record {} ≡ recordIn 12 l
-unfolding recordIn recordFrom
-local-is l = refl
-
-pub factor-is : (l : List ℕ) → R.Factor record {} ≡ recordIn 13 l
-unfolding recordIn recordFrom
-factor-is l = refl
 
 -- a record of kind j is one of kind k where the numbers are equal
 pub of-kind : (j k : ℕ) (l : List ℕ) {r : Record} → r ≡ recordIn j l → k ≡ j → r ≡ recordIn k l
@@ -188,26 +194,40 @@ module _ (l p : List ℕ) where
     pub sequence-given : (n : ℕ) → k ≡ Count.Is n → Sequence.Number n ≡ sequenceOf (valueOf sequence (take 6 l))
     sequence-given n q = sym (ap sequenceCount q) ∙ sequenced
 
-  module _ (e : p ≡ take 5 (drop 55 l)) (k : Height) (z : k ≡ cond (length p ≤? 7) (heightOf (valueOf (height 0 true) p)) Height.Missing) where
-    risen : intHeight k ≡ riseIn l
-    unfolding riseIn
+  module _ (e : p ≡ take 5 (drop 55 l)) (k : Height) (z : k ≡ cond (length p ≤? 7) (heightOf (valueOf (height 0 0 0 true) p)) Height.Missing) where
+    risen : intHeight k ≡ signedIn 56 5 l
+    unfolding signedIn
     risen =
-        let k-is : k ≡ heightOf (valueOf (height 0 true) (take 5 (drop 55 l))) = z ∙ rw e (told 5 7 (drop 55 l) _ _ (lit≤ tt)) in
-        ap intHeight k-is ∙ int-height (valueOf (height 0 true) (take 5 (drop 55 l)))
+        let k-is : k ≡ heightOf (valueOf (height 0 0 0 true) (take 5 (drop 55 l))) = z ∙ rw e (told 5 7 (drop 55 l) _ _ (lit≤ tt)) in
+        ap intHeight k-is ∙ int-height (valueOf (height 0 0 0 true) (take 5 (drop 55 l)))
 
-    pub rise-missing : k ≡ Height.Missing → pos 0 ≡ riseIn l
+    pub rise-missing : k ≡ Height.Missing → pos 0 ≡ signedIn 56 5 l
     rise-missing q = sym (ap intHeight q) ∙ risen
 
-    pub rise-given : (n : ℤ) → k ≡ Height.Mm n → n ≡ riseIn l
+    pub rise-given : (n : ℤ) → k ≡ Height.Mm n → n ≡ signedIn 56 5 l
     rise-given n q = sym (ap intHeight q) ∙ risen
 
   pub month-given : (c : ℕ) → p ≡ take 6 (drop (c - 1) l) → {r : ℕ} → r ≡ cond (length p ≤? 8) (natOf (valueOf month p)) 0 → r ≡ monthIn c l
   unfolding monthIn
   month-given c e z = z ∙ rw e (told 6 8 (drop (c - 1) l) _ _ (lit≤ tt))
 
-  pub height-given : (c : ℕ) → p ≡ take 7 (drop (c - 1) l) → {r : Height} → r ≡ cond (length p ≤? 7) (heightOf (valueOf (height 0 true) p)) Height.Missing → r ≡ heightIn c l
+  pub height-given : (c : ℕ) → p ≡ take 7 (drop (c - 1) l) → {r : Height} → r ≡ cond (length p ≤? 7) (heightOf (valueOf (height 0 0 0 true) p)) Height.Missing → r ≡ heightIn c l
   unfolding heightIn
   height-given c e z = z ∙ rw e (told 7 7 (drop (c - 1) l) _ _ (lit≤ tt))
+
+-- a number is what its columns write, and 0 where they are blank
+number-is : (bs : List ℕ) → val 0 bs ≡ natOf (valueOf (number 0 0 0 true) bs)
+unfolding valueOf natOf
+number-is bs = cases (all isBlank bs) (λ e. rw (e, blank-val bs e)) (λ e. rw e)
+
+module _ (l p : List ℕ) (c : ℕ) (e : p ≡ take 10 (drop (c - 1) l)) where
+  pub deviation-given : {r : ℕ} → r ≡ cond (length p ≤? 16) (val 0 p) 0 → r ≡ natIn c 10 l
+  unfolding natIn
+  deviation-given z = z ∙ rw e (told 10 16 (drop (c - 1) l) _ _ (lit≤ tt) ∙ number-is (take 10 (drop (c - 1) l)))
+
+  pub correlation-given : {r : ℤ} → r ≡ cond (length p ≤? 16) (intOf (valueOf (height 0 0 0 true) p)) (pos 0) → r ≡ signedIn c 10 l
+  unfolding signedIn
+  correlation-given z = z ∙ rw e (told 10 16 (drop (c - 1) l) _ _ (lit≤ tt))
 
 -- ---- short codes
 module _ (p q : List ℕ) (e : p ≡ q) (a : ℕ) (x : a ≡ getD p 0 0) where
@@ -253,7 +273,7 @@ module _ (l : List ℕ) where
   unfolding antennaIn
   antenna-given a x b y w = w ∙ rw (x, y)
 
-  pub measurement-given : (a : ℕ) → a ≡ natIn 11 4 l → (b : ℕ) → b ≡ natIn 15 6 l → (c : ℕ) → c ≡ natIn 21 4 l → (d : ℤ) → d ≡ riseIn l
+  pub measurement-given : (a : ℕ) → a ≡ natIn 11 4 l → (b : ℕ) → b ≡ natIn 15 6 l → (c : ℕ) → c ≡ natIn 21 4 l → (d : ℤ) → d ≡ signedIn 56 5 l
       → {r : Measurement} → r ≡ record { station = a; date = b; time = c; height = d } → r ≡ measurementIn l
   unfolding measurementIn
   measurement-given a x b y c z d u w = w ∙ rw (x, y, z, u)
@@ -271,3 +291,17 @@ module _ (l : List ℕ) where
       → r ≡ heightsIn l
   unfolding heightsIn
   heights-given a a′ b b′ c c′ d d′ e e′ f f′ g g′ h h′ i i′ j j′ k k′ w = w ∙ rw (a′, b′, c′, d′, e′, f′, g′, h′, i′, j′, k′)
+
+  pub network-given : (a : ℕ) → a ≡ natIn 11 4 l → (b : ℕ) → b ≡ natIn 21 10 l → (c : ℕ) → c ≡ natIn 31 10 l → (d : ℤ) → d ≡ signedIn 41 10 l → (e : ℕ) → e ≡ natIn 51 10 l → (f : ℕ) → f ≡ getD (take 1 (drop 64 l)) 0 0
+      → {r : Network} → r ≡ record { station = a; north = b; east = c; correlation = d; ellipsoid = e; scaled = f } → r ≡ networkIn l
+  unfolding networkIn
+  network-given a a′ b b′ c c′ d d′ e e′ f f′ w = w ∙ rw (a′, b′, c′, d′, e′, f′)
+
+  pub local-given : (a : ℕ) → a ≡ natIn 11 4 l → (g : ℕ) → g ≡ natIn 17 4 l → (b : ℕ) → b ≡ natIn 23 10 l → (c : ℕ) → c ≡ natIn 33 10 l → (d : ℤ) → d ≡ signedIn 43 10 l → (e : ℕ) → e ≡ natIn 53 10 l → (f : ℕ) → f ≡ getD (take 1 (drop 66 l)) 0 0
+      → {r : Local} → r ≡ record { standpoint = a; forepoint = g; north = b; east = c; correlation = d; ellipsoid = e; scaled = f } → r ≡ localIn l
+  unfolding localIn
+  local-given a a′ g g′ b b′ c c′ d d′ e e′ f f′ w = w ∙ rw (a′, g′, b′, c′, d′, e′, f′)
+
+  pub factor-given : (a : ℕ) → a ≡ natIn 11 8 l → (b : ℕ) → b ≡ natIn 19 8 l → {r : Factor} → r ≡ record { horizontal = a; vertical = b } → r ≡ factorIn l
+  unfolding factorIn
+  factor-given a a′ b b′ w = w ∙ rw (a′, b′)

@@ -22,7 +22,7 @@ isAngle : Item → Bool
 isAngle (blank w) = false
 isAngle (constant c) = false
 isAngle (number w lo hi may) = false
-isAngle (height w may) = false
+isAngle (height w lo hi may) = false
 isAngle (angle way) = true
 isAngle month = false
 isAngle media = false
@@ -33,7 +33,7 @@ unfolding isAngle parts width
 one-part (blank w) e = refl
 one-part (constant c) e = refl
 one-part (number w lo hi may) e = refl
-one-part (height w may) e = refl
+one-part (height w lo hi may) e = refl
 one-part (angle way) e = absurd (false≢true (sym e))
 one-part month e = refl
 one-part media e = refl
@@ -92,7 +92,7 @@ width-of-point k c e r z = rw e z
 -- ---- the loop over a kind's rows
 pub record Sought (c kind end i : ℕ) : Type 0 where
   pub low : i ≤ end
-  pub high : end ≤ 67
+  pub high : end ≤ 87
   pub same : rowWidth c (slice i end rows) ≡ rowWidth c (getD rowLists kind [])
 
 pub seek-from : (c kind : ℕ) → kind < 14 → (s : ℕ) → s ≡ getD starts (kind + 1) 0 → (end : ℕ) → end ≡ s → (t : ℕ) → t ≡ getD starts kind 0 → (i : ℕ) → i ≡ t → Sought c kind end i
@@ -101,7 +101,7 @@ seek-from c kind h s p end q t p′ i q′ =
     rw (q, p, q′, p′) record { low = b .low; high = b .high; same = ap (rowWidth c) (b .whole) }
 
 module _ {c kind end i : ℕ} (v : Sought c kind end i) (h : i < end) where
-  pub below : i < 67
+  pub below : i < 87
   below = omega (arith, v .high)
 
   step : rowWidth c (slice i end rows) ≡ cond (c =? getD firsts i 0) (getD widths i 0) (rowWidth c (slice (i + 1) end rows))
@@ -213,7 +213,7 @@ unfolding total parts width
 total-parts (blank w) = omega arith
 total-parts (constant c) = refl
 total-parts (number w lo hi may) = omega arith
-total-parts (height w may) = omega arith
+total-parts (height w lo hi may) = omega arith
 total-parts (angle way) = omega arith
 total-parts month = refl
 total-parts media = refl

@@ -19,6 +19,9 @@ use Rattle.kinds.specs.declared.Instrument.{Instrument}
 use Rattle.kinds.specs.declared.Antenna.{Antenna}
 use Rattle.kinds.specs.declared.Point.{Point}
 use Rattle.kinds.specs.declared.Heights.{Heights}
+use Rattle.kinds.specs.declared.Network.{Network}
+use Rattle.kinds.specs.declared.Local.{Local}
+use Rattle.kinds.specs.declared.Factor.{Factor}
 use Rattle.kinds.specs.declared.Record.{Record}
 use Rattle.kinds.specs.Values.{two, three, recordFrom}
 use Rattle.judging.specs.Judging.{part}
@@ -30,10 +33,10 @@ unfoldable pub monthIn : ℕ → List ℕ → ℕ
 monthIn c l = natOf (valueOf month (part c 6 l))
 
 unfoldable pub heightIn : ℕ → List ℕ → Height
-heightIn c l = heightOf (valueOf (height 0 true) (part c 7 l))
+heightIn c l = heightOf (valueOf (height 0 0 0 true) (part c 7 l))
 
-unfoldable pub riseIn : List ℕ → ℤ
-riseIn l = intOf (valueOf (height 0 true) (part 56 5 l))
+unfoldable pub signedIn : ℕ → ℕ → List ℕ → ℤ
+signedIn c w l = intOf (valueOf (height 0 0 0 true) (part c w l))
 
 -- ---- the records
 unfoldable pub jobIn : List ℕ → Job
@@ -47,7 +50,7 @@ occupationIn l =
     record { station = natIn 11 4 l; media = mediaOf (valueOf media (part 15 10 l)); initials = three (part 25 3 l); instrument = natIn 28 3 l; antenna = natIn 33 3 l }
 
 unfoldable pub measurementIn : List ℕ → Measurement
-measurementIn l = record { station = natIn 11 4 l; date = natIn 15 6 l; time = natIn 21 4 l; height = riseIn l }
+measurementIn l = record { station = natIn 11 4 l; date = natIn 15 6 l; time = natIn 21 4 l; height = signedIn 56 5 l }
 
 unfoldable pub instrumentIn : List ℕ → Instrument
 instrumentIn l = record { instrument = natIn 11 3 l; equipment = natIn 14 3 l }
@@ -77,6 +80,30 @@ heightsIn l = record {
   ellipsoidcode = getD (part 53 1 l) 0 0;
   ellipsoiddatum = getD (part 56 1 l) 0 0;
 }
+
+unfoldable pub networkIn : List ℕ → Network
+networkIn l = record {
+  station = natIn 11 4 l;
+  north = natIn 21 10 l;
+  east = natIn 31 10 l;
+  correlation = signedIn 41 10 l;
+  ellipsoid = natIn 51 10 l;
+  scaled = getD (part 65 1 l) 0 0;
+}
+
+unfoldable pub localIn : List ℕ → Local
+localIn l = record {
+  standpoint = natIn 11 4 l;
+  forepoint = natIn 17 4 l;
+  north = natIn 23 10 l;
+  east = natIn 33 10 l;
+  correlation = signedIn 43 10 l;
+  ellipsoid = natIn 53 10 l;
+  scaled = getD (part 67 1 l) 0 0;
+}
+
+unfoldable pub factorIn : List ℕ → Factor
+factorIn l = record { horizontal = natIn 11 8 l; vertical = natIn 19 8 l }
 
 -- the record of a line of kind k
 unfoldable pub recordIn : ℕ → List ℕ → Record

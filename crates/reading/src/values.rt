@@ -5,9 +5,11 @@ use columns::Height;
 use columns::Way;
 use columns::angles::read_angle;
 use columns::heights::read_height;
+use columns::heights::read_signed;
 use columns::labels::read_media;
 use columns::numbers::read_count;
 use columns::numbers::read_month;
+use columns::numbers::value_of;
 use columns::parts::byte_at;
 use columns::parts::middle;
 use kinds::Antenna;
@@ -36,7 +38,7 @@ ghost use Rattle.rules.specs.Items.{valueOf, number};
 ghost use Rattle.rules.specs.Records.{sequence};
 ghost use Rattle.kinds.specs.Values.{sequenceOf, two, three};
 ghost use Rattle.columns.specs.Types.{four, natOf};
-ghost use Rattle.reading.specs.Values.{natIn, monthIn, riseIn, heightIn, projectIn, occupationIn, measurementIn, instrumentIn, antennaIn, pointIn, heightsIn, jobIn, recordIn};
+ghost use Rattle.reading.specs.Values.{natIn, monthIn, signedIn, heightIn, projectIn, occupationIn, measurementIn, instrumentIn, antennaIn, pointIn, heightsIn, networkIn, localIn, factorIn, jobIn, recordIn};
 
 pub fn read_sequence(line: &[u8]) -> Sequence
     ensures { λ r. ⌜ r ≡ sequenceOf (valueOf sequence (take 6 (now (line .entry)))) ⌝ }
@@ -90,12 +92,27 @@ fn height_in(line: &[u8], first: usize) -> Height
 
 // A height that is never missing.
 fn rise_in(line: &[u8]) -> i32
-    ensures { λ r. ⌜ r ≡ riseIn (now (line .entry)) ⌝ }
+    ensures { λ r. ⌜ r ≡ signedIn 56 5 (now (line .entry)) ⌝ }
 {
     match read_height(middle(line, Measurement::HEIGHT - 1, Measurement::HEIGHT_WIDTH)) {
         Height::Missing => 0,
         Height::Mm(z) => z,
     }
+}
+
+// The ten columns of a standard deviation or of a correlation. Whatever stands there fits 64 bits.
+fn deviation_in(line: &[u8], first: usize) -> u64
+    requires { ⌜ 1 ≤ first ⌝ }
+    ensures { λ r. ⌜ r ≡ natIn first 10 (now (line .entry)) ⌝ }
+{
+    value_of(middle(line, first - 1, Network::NORTH_WIDTH))
+}
+
+fn correlation_in(line: &[u8], first: usize) -> i64
+    requires { ⌜ 1 ≤ first ⌝ }
+    ensures { λ r. ⌜ r ≡ signedIn first 10 (now (line .entry)) ⌝ }
+{
+    read_signed(middle(line, first - 1, Network::CORRELATION_WIDTH))
 }
 
 fn two_in(line: &[u8], first: usize) -> Two
@@ -232,6 +249,42 @@ fn read_heights(line: &[u8]) -> Heights
     )
 }
 
+fn read_network(line: &[u8]) -> Network
+    ensures { λ r. ⌜ r ≡ networkIn (now (line .entry)) ⌝ }
+{
+    Network::new(
+        number_in(line, Network::STATION, Network::STATION_WIDTH),
+        deviation_in(line, Network::NORTH),
+        deviation_in(line, Network::EAST),
+        correlation_in(line, Network::CORRELATION),
+        deviation_in(line, Network::ELLIPSOID),
+        char_in(line, Network::SCALED),
+    )
+}
+
+fn read_local(line: &[u8]) -> Local
+    ensures { λ r. ⌜ r ≡ localIn (now (line .entry)) ⌝ }
+{
+    Local::new(
+        number_in(line, Local::STANDPOINT, Local::STANDPOINT_WIDTH),
+        number_in(line, Local::FOREPOINT, Local::FOREPOINT_WIDTH),
+        deviation_in(line, Local::NORTH),
+        deviation_in(line, Local::EAST),
+        correlation_in(line, Local::CORRELATION),
+        deviation_in(line, Local::ELLIPSOID),
+        char_in(line, Local::SCALED),
+    )
+}
+
+fn read_factor(line: &[u8]) -> Factor
+    ensures { λ r. ⌜ r ≡ factorIn (now (line .entry)) ⌝ }
+{
+    Factor::new(
+        number_in(line, Factor::HORIZONTAL, Factor::HORIZONTAL_WIDTH),
+        number_in(line, Factor::VERTICAL, Factor::VERTICAL_WIDTH),
+    )
+}
+
 // The first seven kinds.
 fn read_low(line: &[u8], kind: usize) -> Record
     requires { ⌜ kind < 7 ⌝ }
@@ -276,12 +329,12 @@ fn read_high(line: &[u8], kind: usize) -> Record
         return Record::Heights(read_heights(line));
     }
     if kind < 12 {
-        return Record::Network(Network::new());
+        return Record::Network(read_network(line));
     }
     if kind < 13 {
-        return Record::Local(Local::new());
+        return Record::Local(read_local(line));
     }
-    Record::Factor(Factor::new())
+    Record::Factor(read_factor(line))
 }
 
 // The record of a line of a kind.

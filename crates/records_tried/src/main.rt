@@ -41,9 +41,9 @@ fn texts_of(what: Record) -> Texts {
         Record::Antenna(r) => starts(17, 45, 0),
         Record::Point(r) => starts(15, 0, 0),
         Record::Heights(r) => starts(30, 57, 0),
-        Record::Network(r) => starts(11, 0, 0),
-        Record::Local(r) => starts(11, 0, 0),
-        Record::Factor(r) => starts(11, 0, 0),
+        Record::Network(r) => starts(66, 0, 0),
+        Record::Local(r) => starts(68, 0, 0),
+        Record::Factor(r) => starts(27, 0, 0),
     }
 }
 

@@ -9,7 +9,9 @@ use columns::signs::split_sign;
 use kinds::Antenna;
 use kinds::Fault;
 use kinds::Heights;
+use kinds::Local;
 use kinds::Measurement;
+use kinds::Network;
 use kinds::Occupation;
 use kinds::Point;
 use kinds::Project;
@@ -165,6 +167,25 @@ fn show_heights(r: Heights) {
     byte(r.ellipsoiddatum);
 }
 
+fn show_network(r: Network) {
+    count(r.station);
+    number(r.north);
+    number(r.east);
+    signed_long(r.correlation);
+    number(r.ellipsoid);
+    byte(r.scaled);
+}
+
+fn show_local(r: Local) {
+    count(r.standpoint);
+    count(r.forepoint);
+    number(r.north);
+    number(r.east);
+    signed_long(r.correlation);
+    number(r.ellipsoid);
+    byte(r.scaled);
+}
+
 pub(crate) fn show_record(what: Record) {
     match what {
         Record::Job(r) => {
@@ -184,8 +205,11 @@ pub(crate) fn show_record(what: Record) {
         Record::Antenna(r) => show_antenna(r),
         Record::Point(r) => show_point(r),
         Record::Heights(r) => show_heights(r),
-        Record::Network(r) => text(b"network "),
-        Record::Local(r) => text(b"local "),
-        Record::Factor(r) => text(b"factor "),
+        Record::Network(r) => show_network(r),
+        Record::Local(r) => show_local(r),
+        Record::Factor(r) => {
+            count(r.horizontal);
+            count(r.vertical);
+        }
     }
 }

@@ -2,9 +2,12 @@
 use crate::print::show_fault;
 use crate::print::text;
 use columns::Height;
+use kinds::Factor;
 use kinds::Heights;
 use kinds::Job;
+use kinds::Local;
 use kinds::Measurement;
+use kinds::Network;
 use kinds::Point;
 use kinds::Project;
 use kinds::Record;
@@ -139,6 +142,56 @@ fn all_heights() {
     heights(Height::Mm(10_000_000), b'A', b'Y', Height::Mm(-500), b'6');
 }
 
+fn network(north: u64, east: u64, correlation: i64, ellipsoid: u64, scaled: u8) {
+    let n = Network::new(1, north, east, correlation, ellipsoid, scaled);
+    refused(
+        Sequence::Missing,
+        Record::Network(n),
+        b"               ",
+        b"",
+    );
+}
+
+fn networks() {
+    network(999_999_999, 0, -99_999_990, 0, b'Y');
+    network(1_000_000_000, 0, 0, 0, b'Y');
+    network(0, 1_000_000_000, 0, 0, b'Y');
+    network(0, 0, -99_999_991, 0, b'Y');
+    network(0, 0, 99_999_999, 999_999_999, b'N');
+    network(0, 0, 100_000_000, 0, b'N');
+    network(0, 0, 0, 1_000_000_000, b'N');
+    network(0, 0, 0, 0, b' ');
+}
+
+fn local(standpoint: u32, forepoint: u32, north: u64, comment: &[u8]) {
+    let l = Local::new(standpoint, forepoint, north, 0, 0, 0, b'N');
+    refused(Sequence::Missing, Record::Local(l), comment, b"");
+}
+
+fn locals() {
+    let comment = b"             ";
+    local(1, 2, 0, comment);
+    local(1, 1, 0, comment);
+    local(0, 0, 0, comment);
+    local(1, 10_000, 0, comment);
+    local(1, 1, 1_000_000_000, comment);
+    local(1, 2, 0, b"            ");
+}
+
+fn factor(horizontal: u32, vertical: u32) {
+    let comment = b"                                                      ";
+    let f = Factor::new(horizontal, vertical);
+    refused(Sequence::Missing, Record::Factor(f), comment, b"");
+}
+
+fn factors() {
+    factor(1, 9_999);
+    factor(0, 1);
+    factor(10_000, 1);
+    factor(1, 0);
+    factor(1, 10_000);
+}
+
 // An output of 80 bytes is too short for a record, whatever the values.
 fn too_short() {
     let mut out = [b'.'; 80];
@@ -159,5 +212,8 @@ pub(crate) fn write_refused() {
     projects();
     measurements();
     all_heights();
+    networks();
+    locals();
+    factors();
     too_short();
 }

@@ -2,7 +2,7 @@
 use mathlib.Core.Path.{_≡_, refl, sym, _∙_, ap}
 use mathlib.Core.Bool.{Bool, true, false, cond, false≢true}
 use mathlib.Core.List.{List, [], _∷_}
-use Prim.Native.Nat.{ℕ, zero, suc, _+_, _-_, _*_, _/_, _%_, _≤_}
+use Prim.Native.Nat.{ℕ, zero, suc, _+_, _-_, _*_, _/_, _%_, _≤_, _<_}
 use native.Mathlib.Omega.{arith}
 use lib.ListN.{length, getD}
 use lib.IntN.{pos, negsuc}
@@ -18,6 +18,7 @@ use Rattle.rules.specs.Chapter4.{chapter4}
 use Rattle.rules.proofs.Truth.{both, to≤, to≡, of≢, cases, to-within}
 use Rattle.columns.specs.Types.{natOf, intOf, heightOf, heightValue, mediaOf, mediaValue, four, fourOf}
 use Rattle.columns.proofs.LabelLaws.{four-back}
+use Rattle.kinds.proofs.TableLaws.{each-kind}
 use Rattle.kinds.specs.Values.{textOf, two, twoText, three, threeText, charOf, codeOf, valuesOf, meaningOf, recordFrom, recordOf}
 use Rattle.round_trips.specs.Texts.{isLong}
 
@@ -30,7 +31,7 @@ unfoldable back : Item → Value → Value
 back (blank w) v = gap
 back (constant c) v = gap
 back (number w lo hi may) v = cond may (heightValue (heightOf v)) (num (pos (natOf v)))
-back (height w may) v = cond may (heightValue (heightOf v)) (num (intOf v))
+back (height w lo hi may) v = cond may (heightValue (heightOf v)) (num (intOf v))
 back (angle way) v = num (intOf v)
 back month v = num (pos (natOf v))
 back media v = mediaValue (mediaOf v)
@@ -115,8 +116,8 @@ fit-back (blank w) v h = gap-back true v h
 fit-back (constant c) v h = gap-back _ v h
 fit-back (number w lo hi true) v h = height-back true _ _ v h
 fit-back (number w lo hi false) v h = nat-back _ v h
-fit-back (height w true) v h = height-back true _ _ v h
-fit-back (height w false) v h = int-back _ _ v h
+fit-back (height w lo hi true) v h = height-back true _ _ v h
+fit-back (height w lo hi false) v h = int-back _ _ v h
 fit-back (angle way) v h = int-back _ _ v h
 fit-back month v h = nat-back _ v h
 fit-back media v h = media-back v h
@@ -151,12 +152,12 @@ upto (suc n) P h zero = h .0
 upto (suc n) P h (suc k) = upto n (λ i. P (suc i)) (h .1) k
 
 -- ---- of each kind: the values of its record are those that its fields give
-values-back : (k : ℕ) (c : List ℕ) (v : ℕ → Value)
+values-back : (c : List ℕ) (v : ℕ → Value) (k : ℕ) → k < 14
     → let ts = texts (getD layouts k kept) v in valuesOf (recordFrom k c v) (getD ts 0 []) (getD ts 1 []) (getD ts 2 []) ≡ backs (getD layouts k kept) v
-unfolding Upto layouts texts backs back isLong backText valuesOf recordFrom charOf _=?_ _≤?_
-values-back k c v =
-    upto 14 (λ k. let ts = texts (getD layouts k kept) v in valuesOf (recordFrom k c v) (getD ts 0 []) (getD ts 1 []) (getD ts 2 []) ≡ backs (getD layouts k kept) v)
-    (refl, (refl, (refl, (refl, (refl, (refl, (refl, (refl, (refl, (refl, (refl, (refl, (refl, (refl, (λ k. refl))))))))))))))) k
+unfolding layouts texts backs back isLong backText valuesOf recordFrom charOf _=?_ _≤?_
+values-back c v =
+    each-kind (λ k. let ts = texts (getD layouts k kept) v in valuesOf (recordFrom k c v) (getD ts 0 []) (getD ts 1 []) (getD ts 2 []) ≡ backs (getD layouts k kept) v)
+    refl refl refl refl refl refl refl refl refl refl refl refl refl refl
 
 -- ---- the code
 unfoldable spelled : ℕ → List ℕ
@@ -225,5 +226,5 @@ meaning-back m h =
     let v : ℕ → Value = λ i. getD (m .values) i gap in
     let rows = all-back (getD layouts (kindOf (m .code)) kept) (m .values) (to≡ (both (both h .1) .0)) (both (both h .1) .1) in
     let code = code-back (m .code) v (to≤ (both h .0)) in
-    let values = values-back (kindOf (m .code)) (m .code) v in
+    let values = values-back (m .code) v (kindOf (m .code)) (omega (arith, to≤ (both h .0))) in
     rw (code, values, rows)

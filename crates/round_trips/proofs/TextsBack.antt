@@ -26,7 +26,7 @@ use Rattle.round_trips.proofs.MeaningBack.{texts, textsOf, Upto, upto}
 -- ---- of each kind: the columns, as docs/LAYOUT.md has them
 pub columns-are : map longColumns layouts ≡
     (11 ∷ []) ∷ (11 ∷ []) ∷ (11 ∷ []) ∷ (26 ∷ 47 ∷ []) ∷ [] ∷ (11 ∷ []) ∷ [] ∷ (23 ∷ 63 ∷ 71 ∷ []) ∷ (17 ∷ 45 ∷ []) ∷ (15 ∷ []) ∷ (30 ∷ 57 ∷ [])
-    ∷ (11 ∷ []) ∷ (11 ∷ []) ∷ (11 ∷ []) ∷ []
+    ∷ (66 ∷ []) ∷ (68 ∷ []) ∷ (27 ∷ []) ∷ []
 unfolding layouts isLong longColumns _≤?_
 columns-are = refl
 

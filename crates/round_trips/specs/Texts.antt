@@ -16,7 +16,7 @@ unfoldable pub isLong : Item → Bool
 isLong (blank w) = false
 isLong (constant c) = false
 isLong (number w lo hi may) = false
-isLong (height w may) = false
+isLong (height w lo hi may) = false
 isLong (angle way) = false
 isLong month = false
 isLong media = false

@@ -9,7 +9,7 @@ use lib.ListN.{length, getD}
 use lib.IntN.{pos, negsuc}
 use Rattle.rules.specs.Tests.{all, _&_, _≤?_, _=?_}
 use Rattle.rules.specs.Items.{Value, gap, missing, num, text, label, Item, blank, constant, number, height, angle, month, media, word, valueOf, fits, onNumber}
-use Rattle.rules.specs.Fields.{Bond, free, notBefore, goesWith, expected, Field, Expect, same, Entry, columnsOf, read, valueAt, numOf, isMissing, sameTruth, meets, agreesWith, agrees, isFormed, formed, agreeing}
+use Rattle.rules.specs.Fields.{Bond, free, notBefore, goesWith, differs, expected, Field, Expect, same, Entry, columnsOf, read, valueAt, numOf, isMissing, sameTruth, meets, agreesWith, agrees, isFormed, formed, agreeing}
 use Rattle.rules.specs.Records.{codeAt, entries, meaning, told}
 use Rattle.rules.specs.Kinds.{kindOf, *27*, *70*, *72*, *86*}
 use Rattle.rules.specs.Layouts.{kept, layouts, layout}
@@ -17,7 +17,7 @@ use Rattle.rules.specs.References.{numberAt}
 use Rattle.rules.specs.Chapter4.{chapter4}
 use Rattle.rules.specs.Members.{_∈_}
 use Rattle.rules.specs.Conforms.{Absent, Agreed}
-use Rattle.rules.proofs.Truth.{all-members, members-all, both, to≤, of≤, cases, to-within}
+use Rattle.rules.proofs.Truth.{all-members, members-all, both, to≤, of≤, no≡, of≢, cases, not-true, to-within}
 use Rattle.rules.proofs.Lawful.{blanks, good-fits}
 use Rattle.rules.proofs.SetLaws.{same-truth}
 use Rattle.rules.proofs.FormLaws.{all-blank}
@@ -65,6 +65,7 @@ module _ (l : List ℕ) where
   agreed e free v h = tt
   agreed e (notBefore c) v h = rw (← number-at c) (to≤ h)
   agreed e (goesWith c) v h = rw (← at-column c) (together (valueAt c (entries chapter4 l)) v h)
+  agreed e (differs c) v h = rw (← number-at c) (no≡ (not-true _ h))
   agreed e expected v h = tt
 
   pub as-agreed : (e : Expect) (b : Bond) (v : Value) → Agreed (meaning chapter4 l) b v → (b ≡ expected → meets e (numOf v) ≡ true) → agreesWith e (entries chapter4 l) b v ≡ true
@@ -72,6 +73,7 @@ module _ (l : List ℕ) where
   as-agreed e free v h f = refl
   as-agreed e (notBefore c) v h f = of≤ (rw (number-at c) h)
   as-agreed e (goesWith c) v h f = as-together (valueAt c (entries chapter4 l)) v (rw (at-column c) h)
+  as-agreed e (differs c) v h f = rw (of≢ {m = numOf (valueAt c (entries chapter4 l))} {n = numOf v} (rw (number-at c) h))
   as-agreed e expected v h f = f refl
 
 -- ---- with the records before: the number at column 11
@@ -79,6 +81,7 @@ unfoldable waits : Bond → Bool
 waits free = false
 waits (notBefore c) = false
 waits (goesWith c) = false
+waits (differs c) = false
 waits expected = true
 
 waits-expected : (b : Bond) → waits b ≡ true → b ≡ expected
@@ -86,13 +89,14 @@ unfolding waits
 waits-expected free h = absurd (false≢true h)
 waits-expected (notBefore c) h = absurd (false≢true h)
 waits-expected (goesWith c) h = absurd (false≢true h)
+waits-expected (differs c) h = absurd (false≢true h)
 waits-expected expected h = refl
 
 unfoldable fromOne : Item → Bool
 fromOne (blank w) = false
 fromOne (constant c) = false
 fromOne (number w lo hi may) = 1 ≤? lo & not may
-fromOne (height w may) = false
+fromOne (height w lo hi may) = false
 fromOne (angle way) = false
 fromOne month = false
 fromOne media = false
@@ -124,16 +128,12 @@ one-up w lo hi may (num (negsuc n)) p q h = absurd (false≢true h)
 one-up w lo hi may (text t) p q h = absurd (false≢true h)
 one-up w lo hi may (label m d y s t) p q h = absurd (false≢true h)
 
-not-true : (b : Bool) → not b ≡ true → b ≡ false
-not-true true h = absurd (false≢true h)
-not-true false h = refl
-
 from-one : (i : Item) (v : Value) → fromOne i ≡ true → fits i v ≡ true → 1 ≤ numOf v
 unfolding fromOne
 from-one (blank w) v h k = absurd (false≢true h)
 from-one (constant c) v h k = absurd (false≢true h)
 from-one (number w lo hi may) v h k = one-up w lo hi may v (to≤ (both h .0)) (not-true may (both h .1)) k
-from-one (height w may) v h k = absurd (false≢true h)
+from-one (height w lo hi may) v h k = absurd (false≢true h)
 from-one (angle way) v h k = absurd (false≢true h)
 from-one month v h k = absurd (false≢true h)
 from-one media v h k = absurd (false≢true h)

@@ -1,24 +1,25 @@
 -- 02, T-02: whatever begins a good field begins one that ends like its kind's least value, in zeros or in blanks; so the function names the column of the sentence.
 use mathlib.Core.Path.{_≡_, refl, sym, _∙_, ap, ap₂, subst}
-use mathlib.Core.Logic.{_↔_}
+use mathlib.Core.Logic.{_⊎_, inl, inr, _↔_}
 use mathlib.Core.Bool.{Bool, true, false, cond, false≢true}
 use mathlib.Core.List.{List, [], _∷_, _++_, append-assoc, append-nil}
 use Prim.Native.Nat.{ℕ, zero, suc, _+_, _-_, _*_, _^_, _≤_, _<_}
 use native.Mathlib.Nat.{mul-assoc, pow-le-pow-right}
 use native.Mathlib.Omega.{arith}
 use lib.ListN.{length, length-append, length-drop, replicate, length-replicate, take, drop, getD, take-append-drop, drop-of-length-le}
-use lib.Seq.{take-at, drop-at, getD-at, take-all, take-take, take-append-seam, take-append-add, drop-append-le, length-take-le}
+use lib.Seq.{take-at, getD-at, take-all, take-take, take-append-seam, take-append-add, drop-append-le, length-take-le}
 use lib.IntN.{pos}
 use Rattle.rules.specs.Tests.{all, within, _&_, _≤?_, _=?_}
 use Rattle.rules.specs.Characters.{isPrintable, isBlank, isDigit, isLetter, Set, letter, digit, space, printable, title, name, only, _or_, member, oneOf, isTitle}
 use Rattle.rules.specs.Digits.{val, put}
 use Rattle.rules.specs.Items.{missing, num, Way, latitude, longitude, each, orBlank, Item, blank, constant, number, height, angle, month, media, word}
-use Rattle.rules.specs.Items.{setIn, numForm, heightForm, passes, render, angleOf, dms, dmsForm, columns, top, low, plus, angleValue, isMonth, isMedia, onGap, onNumber, onText, onLabel, width, shape, valueOf, fits, good, least, ends, goesOn, begins, firstBad, spot}
+use Rattle.rules.specs.Items.{setIn, numForm, heightForm, minus, signed, passes, render, angleOf, dms, dmsForm, columns, top, low, plus, angleValue, isMonth, isMedia, onGap, onNumber, onText, onLabel, width, shape, valueOf, fits, good, least, ends, goesOn, begins, firstBad, spot}
+use Rattle.rules.specs.Forms.{Between}
 use Rattle.rules.specs.Beginnings.{Begins, Names}
 use Rattle.rules.proofs.Truth.{both, and, to≤, of≤, no≤, to≡, of≡, not-both, to-within, of-within, cases, choice, all-append, all-parts, all-take, all-drop, all-weaken, all-replicate}
 use Rattle.rules.proofs.DigitLaws.{length-put, digits-put, val-put, val-cut, val-zeros, put-zeros, notAbove9, val-lt}
 use Rattle.rules.proofs.Lawful.{blanks, digits-not-blank, blanks-numForm, digits-numForm, blanks-heightForm, digits-heightForm, degrees, minutes, seconds, east, plus-letter}
-use Rattle.rules.proofs.FormLaws.{digit-low, digits-lt, value-blank, in-range, fits-room, fits-range, height-blank, height-formed}
+use Rattle.rules.proofs.FormLaws.{digit-low, digits-lt, value-blank, in-range, fits-room, fits-range, height-blank, height-between, height-formed}
 use Rattle.rules.proofs.SpellLaws.{sized, shaped, fitting, goodly, put-behind, angle-most, spelled-iff}
 
 -- ---- a beginning with an end behind it
@@ -240,23 +241,7 @@ module _ (w lo hi : ℕ) (may : Bool) (p rest : List ℕ) (h : good (number w lo
   number-goes : begins this p ≡ true
   number-goes = cases (all isBlank (p ++ rest)) number-blank (λ some. cases (lo ≤? val 0 p * 10 ^ length rest) (λ e. zeros-go some (to≤ e)) (λ e. least-go some (no≤ e)))
 
--- ---- heights
-module _ (w : ℕ) (may : Bool) (p rest : List ℕ) (h : good (height w may) (p ++ rest) ≡ true) where
-  height-goes : begins (height w may) p ≡ true
-  unfolding width shape
-  height-goes =
-      let size : length (p ++ rest) ≡ w = sized (height w may) _ h in
-      cases (all isBlank (p ++ rest))
-      (λ e. let none = all-ended p rest (replicate w 32) isBlank e (blanks w) in
-      let fit : fits (height w may) missing ≡ true = subst (λ v. fits (height w may) v ≡ true) (height-blank w may (p ++ rest) e) (fitting (height w may) _ h) in
-      by-blanks (height w may) p (goodly (height w may) _ (ended p rest _ size (length-replicate w 32)) (blanks-heightForm _ none) (height-blank w may _ none) fit .0))
-      (λ e. let ds : List ℕ = drop (length p) (replicate w 48) in
-      let (long, zeros) = zeros-behind w p rest size in
-      let digits = all-weaken (λ b. b =? 48) isDigit zero-digit ds zeros in
-      by-zeros (height w may) p
-      (height-formed w may (p ++ ds) (ended p rest _ size (length-replicate w 48)) (height-on p rest ds (shaped (height w may) _ h) digits long) (still-some p rest ds e digits long)))
-
--- ---- angles: with zeros behind a beginning no part of an angle grows
+-- ---- heights and angles: with zeros behind a beginning no number in it grows
 unfoldable lower : List ℕ → List ℕ → Bool
 lower [] [] = true
 lower [] (b ∷ bs) = false
@@ -290,6 +275,62 @@ zeros-lower [] (x ∷ zs) [] h k e = absurd (omega arith)
 zeros-lower [] (x ∷ zs) (y ∷ ds) h k e =
     and (of≤ (omega (arith, to≡ (both h .0), digit-from y (both k .0)))) (zeros-lower [] zs ds (both h .1) (both k .1) (omega arith))
 zeros-lower (b ∷ p) zs ds h k e = and (of≤ {m = b} (omega arith)) (zeros-lower p zs ds h k e)
+
+-- ---- heights
+-- zeros in the place of what a signed number ends in leave its sign, or it becomes 0
+sign-on : (p rest ds : List ℕ) → all (λ b. b =? 48) ds ≡ true → (minus (p ++ ds) ≡ minus (p ++ rest)) ⊎ (val 0 (p ++ ds) ≡ 0)
+unfolding minus val
+sign-on [] rest ds k = inr (val-zeros 0 ds k ∙ omega arith)
+sign-on (b ∷ p) rest ds k =
+    cases (isBlank b)
+    (λ e. let none : b ≡ 32 = unfold isBlank in to≡ e in rw (e, none) (sign-on p rest ds k))
+    (λ e. inl (rw e))
+
+-- and leave it no further from 0
+nearer-0 : (p rest ds : List ℕ) → all (λ b. b =? 48) ds ≡ true → length ds ≡ length rest → val 0 (p ++ ds) ≤ val 0 (p ++ rest)
+nearer-0 p rest ds k l = omega (arith, val-cut (length rest) p ds l, val-cut (length rest) p rest refl, val-zeros 0 ds k)
+
+-- a range holds 0, and with a number all that are nearer to 0 on its side
+module _ (lo hi : ℕ) where
+  zero-between : (sign : Bool) → Between lo hi (signed sign 0)
+  unfolding Between signed
+  zero-between true = omega arith
+  zero-between false = omega arith
+
+  side-between : (sign : Bool) (m n : ℕ) → m ≤ n → Between lo hi (signed sign n) → Between lo hi (signed sign m)
+  unfolding Between signed
+  side-between false m n k b = omega arith
+  side-between true zero n k b = omega arith
+  side-between true (suc m) zero k b = absurd (omega arith)
+  side-between true (suc m) (suc n) k b = omega arith
+
+  still-between : (s t : Bool) (m n : ℕ) → m ≤ n → (s ≡ t) ⊎ (m ≡ 0) → Between lo hi (signed t n) → Between lo hi (signed s m)
+  still-between s t m n k (inl e) b = rw e (side-between t m n k b)
+  still-between s t m n k (inr e) b = rw e (zero-between s)
+
+module _ (w lo hi : ℕ) (may : Bool) (p rest : List ℕ) (h : good (height w lo hi may) (p ++ rest) ≡ true) where
+  abbrev its-item : Item
+  its-item = height w lo hi may
+
+  height-goes : begins its-item p ≡ true
+  unfolding width shape
+  height-goes =
+      let size : length (p ++ rest) ≡ w = sized its-item _ h in
+      cases (all isBlank (p ++ rest))
+      (λ e. let none = all-ended p rest (replicate w 32) isBlank e (blanks w) in
+      let fit : fits its-item missing ≡ true = subst (λ v. fits its-item v ≡ true) (height-blank w lo hi may (p ++ rest) e) (fitting its-item _ h) in
+      by-blanks its-item p (goodly its-item _ (ended p rest _ size (length-replicate w 32)) (blanks-heightForm _ none) (height-blank w lo hi may _ none) fit .0))
+      (λ e. let ds : List ℕ = drop (length p) (replicate w 48) in
+      let (long, zeros) = zeros-behind w p rest size in
+      let digits = all-weaken (λ b. b =? 48) isDigit zero-digit ds zeros in
+      by-zeros its-item p
+      (height-formed w lo hi may (p ++ ds) (ended p rest _ size (length-replicate w 48)) (height-on p rest ds (shaped its-item _ h) digits long) (still-some p rest ds e digits long)
+      (still-between lo hi (minus (p ++ ds)) (minus (p ++ rest)) _ _ (nearer-0 p rest ds zeros long) (sign-on p rest ds zeros) (was e))))
+    where
+      was : all isBlank (p ++ rest) ≡ false → Between lo hi (signed (minus (p ++ rest)) (val 0 (p ++ rest)))
+      was e =
+          let v : valueOf its-item (p ++ rest) ≡ num (signed (minus (p ++ rest)) (val 0 (p ++ rest))) = unfold valueOf in rw e in
+          height-between w lo hi may _ (subst (λ x. fits its-item x ≡ true) v (fitting its-item _ h))
 
 -- degrees of n columns, two of minutes, seven of seconds and decimals
 module _ (n : ℕ) where
@@ -597,7 +638,7 @@ goes : (i : Item) (p rest : List ℕ) → good i (p ++ rest) ≡ true → begins
 goes (blank w) p rest h = blank-goes p rest w h
 goes (constant c) p rest h = constant-goes p rest c h
 goes (number w lo hi may) p rest h = number-goes w lo hi may p rest h
-goes (height w may) p rest h = height-goes w may p rest h
+goes (height w lo hi may) p rest h = height-goes w lo hi may p rest h
 goes (angle way) p rest h = angle-goes way p rest h
 goes month p rest h = month-goes p rest h
 goes media p rest h = media-goes rest p h
@@ -628,7 +669,7 @@ unfolding render least width onGap onNumber onText onLabel
 least-sized (blank w) = length-replicate w 32
 least-sized (constant c) = refl
 least-sized (number w lo hi may) = length-put w lo
-least-sized (height w may) = length-put w 0
+least-sized (height w lo hi may) = length-put w 0
 least-sized (angle way) = length-append (put (columns way) (dms 0)) (plus way ∷ []) ∙ omega (arith, length-put (columns way) (dms 0))
 least-sized month = length-put 6 101
 least-sized media = ap suc (length-append (put 3 1) (48 ∷ 48 ∷ 32 ∷ 32 ∷ 32 ∷ 32 ∷ [])) ∙ omega (arith, length-put 3 1)

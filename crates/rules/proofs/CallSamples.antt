@@ -15,7 +15,7 @@ use Rattle.rules.specs.Records.{Meaning, meaning, ofKind, judgeGiven}
 use Rattle.rules.specs.Files.{accept, meanings, verdict}
 use Rattle.rules.specs.Layouts.{layout}
 use Rattle.rules.specs.References.{ofFirst, hasWord, wordAt, counts}
-use Rattle.rules.specs.Kinds.{*AA*, *10*, *12*, *25*, *27*, *70*, *72*, *80*, *86*}
+use Rattle.rules.specs.Kinds.{*AA*, *10*, *12*, *25*, *27*, *70*, *72*, *80*, *86*, *91*, *92*, *93*}
 use Rattle.rules.specs.Chapter4.{chapter4}
 use Rattle.rules.specs.Calls.{checkAnswer, values, unread, isRead, partWidth, fieldWidth, widthAsked, fieldOffset, fieldOf, writeVerdict, writeOutput}
 use Rattle.rules.specs.Sheet.{tabbed, fileLine, kindNames, kindLines, listed, sheet}
@@ -52,9 +52,9 @@ pub full-styled :
     ∷ "000180*86*0001  -001234A12Y88NGS             9999999A  A"
     ∷ "000190*80*0002DOCK                          00000000001S000000000001W       MD"
     ∷ "000200*86*0002                     -0005006"
-    ∷ "000210*91*0001"
-    ∷ "000220*92*0001 0002"
-    ∷ "000230*93*1.00"
+    ∷ "000210*91*0001      00000001230000000098-0012345670000000250    NNETWORK"
+    ∷ "000220*92*0001  0002  0000000045000000005000000000000000000120    YLOCAL"
+    ∷ "000230*93*0000100000009999FACTORS"
     ∷ "000240*A1*" ∷ [])
 unfolding styled joined
 full-styled = refl
@@ -86,9 +86,9 @@ pub full-read :
     ∷ values missing (meant "*86*" (num (pos 1) ∷ gap ∷ below-0 1_234 ∷ wide 1 "A" ∷ wide 2 "12" ∷ wide 1 "Y" ∷ wide 2 "88" ∷ wide 6 "NGS" ∷ missing ∷ wide 1 "" ∷ gap ∷ num (pos 9_999_999) ∷ wide 1 "A" ∷ gap ∷ wide 1 "A" ∷ wide 24 "" ∷ []))
     ∷ values missing (meant "*80*" (num (pos 2) ∷ wide 30 "DOCK" ∷ below-0 1 ∷ below-0 1 ∷ gap ∷ wide 2 "MD" ∷ gap ∷ []))
     ∷ values missing (meant "*86*" (num (pos 2) ∷ gap ∷ missing ∷ wide 1 "" ∷ wide 2 "" ∷ wide 1 "" ∷ wide 2 "" ∷ wide 6 "" ∷ below-0 500 ∷ wide 1 "6" ∷ gap ∷ missing ∷ wide 1 "" ∷ gap ∷ wide 1 "" ∷ wide 24 "" ∷ []))
-    ∷ values missing (meant "*91*" (wide 70 "0001" ∷ []))
-    ∷ values missing (meant "*92*" (wide 70 "0001 0002" ∷ []))
-    ∷ values missing (meant "*93*" (wide 70 "1.00" ∷ []))
+    ∷ values missing (meant "*91*" (num (pos 1) ∷ gap ∷ num (pos 123) ∷ num (pos 98) ∷ below-0 1_234_567 ∷ num (pos 250) ∷ gap ∷ wide 1 "N" ∷ wide 15 "NETWORK" ∷ []))
+    ∷ values missing (meant "*92*" (num (pos 1) ∷ gap ∷ num (pos 2) ∷ gap ∷ num (pos 45) ∷ num (pos 50) ∷ num (pos 0) ∷ num (pos 120) ∷ gap ∷ wide 1 "Y" ∷ wide 13 "LOCAL" ∷ []))
+    ∷ values missing (meant "*93*" (num (pos 1_000) ∷ num (pos 9_999) ∷ wide 54 "FACTORS" ∷ []))
     ∷ values missing (meant "*A1*" (wide 70 "" ∷ []))
     ∷ unread 13 25 0 ∷ [])
 unfolding readFrom wide meant below-0
@@ -117,7 +117,9 @@ pub field-starts :
     ∷ (11 ∷ 3 ∷ 14 ∷ 3 ∷ 17 ∷ 16 ∷ 33 ∷ 4 ∷ 37 ∷ 8 ∷ 45 ∷ 20 ∷ 65 ∷ 16 ∷ [])
     ∷ (11 ∷ 4 ∷ 15 ∷ 30 ∷ 45 ∷ 11 ∷ 56 ∷ 1 ∷ 57 ∷ 12 ∷ 69 ∷ 1 ∷ 70 ∷ 7 ∷ 77 ∷ 2 ∷ 79 ∷ 2 ∷ [])
     ∷ (11 ∷ 4 ∷ 15 ∷ 2 ∷ 17 ∷ 7 ∷ 24 ∷ 1 ∷ 25 ∷ 2 ∷ 27 ∷ 1 ∷ 28 ∷ 2 ∷ 30 ∷ 6 ∷ 36 ∷ 7 ∷ 43 ∷ 1 ∷ 44 ∷ 2 ∷ 46 ∷ 7 ∷ 53 ∷ 1 ∷ 54 ∷ 2 ∷ 56 ∷ 1 ∷ 57 ∷ 24 ∷ [])
-    ∷ whole ∷ whole ∷ whole ∷ [])
+    ∷ (11 ∷ 4 ∷ 15 ∷ 6 ∷ 21 ∷ 10 ∷ 31 ∷ 10 ∷ 41 ∷ 10 ∷ 51 ∷ 10 ∷ 61 ∷ 4 ∷ 65 ∷ 1 ∷ 66 ∷ 15 ∷ [])
+    ∷ (11 ∷ 4 ∷ 15 ∷ 2 ∷ 17 ∷ 4 ∷ 21 ∷ 2 ∷ 23 ∷ 10 ∷ 33 ∷ 10 ∷ 43 ∷ 10 ∷ 53 ∷ 10 ∷ 63 ∷ 4 ∷ 67 ∷ 1 ∷ 68 ∷ 13 ∷ [])
+    ∷ (11 ∷ 8 ∷ 19 ∷ 8 ∷ 27 ∷ 54 ∷ []) ∷ [])
 unfolding starts
 field-starts = refl
 
@@ -305,6 +307,50 @@ pub writes-86 :
 unfolding writes wide below-0
 writes-86 = refl
 
+-- 02, T-03: the ends of every field of the accuracies; a *92* of one station is 10, of a bad one 9
+abbrev deviations : ℕ → ℕ → List Given
+deviations i c = given i (is 0) ok ∷ given i (is 999_999_999) ok ∷ given i (is 1_000_000_000) (fault 9 c) ∷ given i (below-0 1) (fault 9 c) ∷ given i missing (fault 9 c) ∷ []
+
+abbrev correlations : ℕ → ℕ → List Given
+correlations i c =
+    given i (is 0) ok ∷ given i (is 99_999_999) ok ∷ given i (is 100_000_000) (fault 9 c) ∷ given i (below-0 99_999_990) ok ∷ given i (below-0 99_999_991) (fault 9 c)
+    ∷ given i missing (fault 9 c) ∷ []
+
+abbrev scales : ℕ → ℕ → List Given
+scales i c = given i (wide 1 "N") ok ∷ given i (wide 1 "") (fault 9 c) ∷ given i (wide 1 "y") (fault 9 c) ∷ given i (wide 2 "Y") (fault 9 c) ∷ []
+
+abbrev values-91 : List Value
+values-91 = is 1 ∷ gap ∷ is 123 ∷ is 98 ∷ below-0 50_000_000 ∷ is 250 ∷ gap ∷ wide 1 "Y" ∷ wide 15 "NETWORK" ∷ []
+
+pub writes-91 :
+    writes *91* "*91*" values-91 (
+    given 0 (is 9_999) ok ∷ given 0 (is 0) (fault 9 11) ∷ given 0 (is 10_000) (fault 9 11) ∷ given 0 missing (fault 9 11)
+    ∷ deviations 2 21 ++ deviations 3 31 ++ correlations 4 41 ++ deviations 5 51 ++ scales 7 65 ++ given 8 (wide 14 "") (fault 9 66) ∷ given 8 (wide 16 "") (fault 9 66) ∷ [])
+    ≡ []
+unfolding writes wide below-0
+writes-91 = refl
+
+abbrev values-92 : List Value
+values-92 = is 1 ∷ gap ∷ is 2 ∷ gap ∷ is 45 ∷ is 50 ∷ is 50_000_000 ∷ is 120 ∷ gap ∷ wide 1 "Y" ∷ wide 13 "LOCAL" ∷ []
+
+pub writes-92 :
+    writes *92* "*92*" values-92 (
+    given 0 (is 9_999) ok ∷ given 0 (is 0) (fault 9 11) ∷ given 0 (is 10_000) (fault 9 11) ∷ given 0 (is 2) (fault 10 17)
+    ∷ given 2 (is 9_999) ok ∷ given 2 (is 0) (fault 9 17) ∷ given 2 (is 10_000) (fault 9 17) ∷ given 2 missing (fault 9 17) ∷ given 2 (is 1) (fault 10 17)
+    ∷ deviations 4 23 ++ deviations 5 33 ++ correlations 6 43 ++ deviations 7 53 ++ scales 9 67 ++ given 10 (wide 12 "") (fault 9 68) ∷ given 10 (wide 14 "") (fault 9 68) ∷ [])
+    ≡ []
+unfolding writes wide below-0
+writes-92 = refl
+
+abbrev variances : ℕ → ℕ → List Given
+variances i c = given i (is 1) ok ∷ given i (is 9_999) ok ∷ given i (is 0) (fault 9 c) ∷ given i (is 10_000) (fault 9 c) ∷ given i missing (fault 9 c) ∷ []
+
+pub writes-93 :
+    writes *93* "*93*" (is 1_000 ∷ is 1_000 ∷ wide 54 "" ∷ []) (variances 0 11 ++ variances 1 19 ++ given 2 (wide 53 "") (fault 9 27) ∷ given 2 (wide 55 "") (fault 9 27) ∷ [])
+    ≡ []
+unfolding writes wide
+writes-93 = refl
+
 -- texts of 70 columns: *26* and its like, *10*; the sequence number; the code; 1 before 9
 pub writes-else :
     (writing 81 *AA* missing (meant "*A1*" (wide 70 "" ∷ [])) ∷ writing 81 *AA* missing (meant "*A1*" (wide 69 "" ∷ [])) ∷ writing 81 *AA* missing (meant "*A1*" (wide 71 "" ∷ []))
@@ -329,12 +375,20 @@ pub written-lines :
     ∷ written *12* (is 1) (meant "*12*" values-12) 81
     ∷ written *27* missing (meant "*27*" (is 1 ∷ is 0 ∷ is 59 ∷ gap ∷ below-0 12 ∷ gap ∷ [])) 81
     ∷ written *27* missing (meant "*27*" (is 0 ∷ is 0 ∷ is 59 ∷ gap ∷ below-0 12 ∷ gap ∷ [])) 82
+    ∷ written *91* (is 7) (meant "*91*" values-91) 81 ∷ written *92* missing (meant "*92*" values-92) 81
+    ∷ written *91* missing (meant "*91*" (is 1 ∷ gap ∷ is 0 ∷ is 0 ∷ below-0 99_999_990 ∷ is 999_999_999 ∷ gap ∷ wide 1 "N" ∷ wide 15 "" ∷ [])) 81
+    ∷ written *93* missing (meant "*93*" (is 1 ∷ is 9_999 ∷ wide 54 "FACTORS" ∷ [])) 81
     ∷ written *10* missing (meant "*10*" (wide 70 "" ∷ [])) 80 ∷ [])
     ≡ ((lined "000020*86*0002                     -0005006  0000007A" ++ 120 ∷ 120 ∷ [])
     ∷ lined "      *80*0001HILL                          38531512345S180000000000E       MD"
     ∷ (lined "999999*25*0012T0070AAAAA   001  020" ++ 120 ∷ [])
     ∷ lined "000001*12*202401202402JDCCRUZ                                              4MD"
     ∷ lined "      *27*00010000000059                               -0012"
-    ∷ replicate 82 120 ∷ replicate 80 120 ∷ [])
+    ∷ replicate 82 120
+    ∷ lined "000007*91*0001      00000001230000000098-0500000000000000250    YNETWORK"
+    ∷ lined "      *92*0001  0002  0000000045000000005000500000000000000120    YLOCAL"
+    ∷ lined "      *91*0001      00000000000000000000-0999999900999999999    N"
+    ∷ lined "      *93*0000000100009999FACTORS"
+    ∷ replicate 80 120 ∷ [])
 unfolding written wide meant below-0 lined
 written-lines = refl

@@ -308,15 +308,50 @@ pub edges-72 :
 unfolding edges
 edges-72 = refl
 
--- ---- *91* *92* *93*: 11-80 printable
-pub edges-91 : edges "      *91*0001" (anyText 11 70 ∷ []) ≡ []
+-- ---- docs/LAYOUT.md: *91* *92* *93*, none missing, no decimal point
+-- a standard deviation, 9(7.2) in ten columns
+abbrev deviations : ℕ → List Row
+deviations c =
+    takes c "0000000000|0999999999|         0|      1234|  12345678| 999999999"
+    ∷ refuses c "^1000000000|^9999999999|         ^ |0^         |^1         |000000123^ |   12^ 345 |^-000000001|        ^-1|^+000000001|000000012^/|000000012^:|^/000000012|^:000000012|000000012^A|0000012^.34|   12345^.6" ∷ []
+
+-- a correlation, from -.9999999 to .99999999
+abbrev correlations : ℕ → List Row
+correlations c =
+    takes c "0000000000|0099999999|-099999990|0050000000|-050000000|        -0|-000000000|         0|        -1|  99999999| -99999990|   1234567"
+    ∷ refuses c "^1000000000|0^100000000| ^100000000|-^100000000|-^199999990|-09999999^1|-09999999^9| -9999999^1|         ^-|         ^ |-^         |0^ 12345678|005000000^ "
+    ∷ refuses c "-^ 12345678|-^-12345678|0^-12345678|^+012345678|^.500000000|-^.50000000|0000000^.50|005000000^/|005000000^:|^/050000000|^:050000000|005000000^A" ∷ []
+
+-- Y or N
+abbrev scaled : ℕ → Row
+scaled c = holds c 1 "YN" " XZMOyn01!"
+
+pub edges-91 :
+    edges "      *91*0001      00000001230000000098-0012345670000000250    NNETWORK" (
+    stations ++ spacer 15 6 ∷ deviations 21 ++ deviations 31 ++ correlations 41 ++ deviations 51 ++ spacer 61 4 ∷ scaled 65 ∷ anyText 66 15 ∷ [])
+    ≡ []
 unfolding edges
 edges-91 = refl
 
-pub edges-92 : edges "      *92*0001 0002" (anyText 11 70 ∷ []) ≡ []
+-- the forepoint is another than the standpoint; a forepoint that is none is 9
+pub edges-92 :
+    edges "      *92*0001  0002  0000000045000000005000000000000000000120    YLOCAL" (
+    stations ++ spacer 15 2
+    ∷ takes 17 "0002|9999|   2|  12" ∷ refuses 17 "000^0|   ^0|   ^ |1^   |001^ |1^ 23|^-002|  ^-2|^+002|000^/|000^:|^/002|^:002|000^A"
+    ∷ wrong 10 17 17 "0001|   1|  01" ∷ wrong 10 17 11 "0002|   2| 002"
+    ∷ spacer 21 2 ∷ deviations 23 ++ deviations 33 ++ correlations 43 ++ deviations 53 ++ spacer 63 4 ∷ scaled 67 ∷ anyText 68 13 ∷ [])
+    ≡ []
 unfolding edges
 edges-92 = refl
 
-pub edges-93 : edges "      *93*1.00" (anyText 11 70 ∷ []) ≡ []
+-- a factor, 0001..9999 in eight columns
+abbrev factors : ℕ → List Row
+factors c =
+    takes c "00000001|00009999|       1|    1000|    9999"
+    ∷ refuses c "0000000^0|       ^0|       ^ |000^10000|   ^10000|00^100000|0^1000000|^10000000|^1       |0^       |0000100^ |   0^ 100|^-0000001|      ^-1|^+0000001|   ^1.000|    1^.00|0000000^/|0000000^:|^/0000001|^:0000001|0000000^A" ∷ []
+
+pub edges-93 :
+    edges "      *93*0000100000009999FACTORS" (factors 11 ++ factors 19 ++ anyText 27 54 ∷ [])
+    ≡ []
 unfolding edges
 edges-93 = refl

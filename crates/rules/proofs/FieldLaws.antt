@@ -1,6 +1,6 @@
 -- Fields in a row: form and agreement from the judge, and what is rendered reads back. All of it comes from the fields' lawfulness, once for all kinds.
 use mathlib.Core.Path.{_≡_, refl, _∙_, ap, ap₂}
-use mathlib.Core.Bool.{Bool, true, false, cond}
+use mathlib.Core.Bool.{Bool, true, false, cond, not}
 use mathlib.Core.List.{List, [], _∷_, _++_, append-assoc, map}
 use Prim.Native.Nat.{ℕ, suc, _+_, _-_, _≤_}
 use native.Mathlib.Omega.{arith}
@@ -9,7 +9,7 @@ use lib.Seq.{take-at, drop-at}
 use Rattle.rules.specs.Tests.{all, _&_, _≤?_, _=?_}
 use Rattle.rules.specs.Characters.{isPrintable}
 use Rattle.rules.specs.Items.{Value, width, valueOf, fits, render}
-use Rattle.rules.specs.Fields.{Bond, free, notBefore, goesWith, expected, Field, Expect, anything, Verdict, ok, fault, _⨾_, check, isOk, Entry, columnsOf, read, given, entriesOf, values, valueAt, numOf, isMissing, sameTruth, meets, agreesWith, agrees, judgeEach, judge, isFormed, formed, agreeing, renders, covers}
+use Rattle.rules.specs.Fields.{Bond, free, notBefore, goesWith, differs, expected, Field, Expect, anything, Verdict, ok, fault, _⨾_, check, isOk, Entry, columnsOf, read, given, entriesOf, values, valueAt, numOf, isMissing, sameTruth, meets, agreesWith, agrees, judgeEach, judge, isFormed, formed, agreeing, renders, covers}
 use Rattle.rules.proofs.Truth.{both, and, to≡, of≡, all-append, all-weaken, &-sort}
 use Rattle.rules.proofs.Lawful.{lawful, good-fits, render-good}
 
@@ -53,6 +53,7 @@ unfolding agreesWith meets
 alone e xs free v h = refl
 alone e xs (notBefore c) v h = h
 alone e xs (goesWith c) v h = h
+alone e xs (differs c) v h = h
 alone e xs expected v h = refl
 
 pub agreeing-alone : (e : Expect) (xs : List Entry) → agreeing e xs ≡ true → agreeing anything xs ≡ true
@@ -76,6 +77,7 @@ module _ (l : List ℕ) where
   with-told e gs free v = refl
   with-told e gs (notBefore c) v = ap (λ k. numOf k ≤? numOf v) (valueAt-told c gs)
   with-told e gs (goesWith c) v = ap (λ k. sameTruth (isMissing k) (isMissing v)) (valueAt-told c gs)
+  with-told e gs (differs c) v = ap (λ k. not (numOf k =? numOf v)) (valueAt-told c gs)
   with-told e gs expected v = refl
 
   all-told : (e : Expect) (gs fs : List Field) → all (agrees e (map (read l) gs)) (map (read l) fs) ≡ all (agrees e (entriesOf gs (values gs l))) (entriesOf fs (values fs l))

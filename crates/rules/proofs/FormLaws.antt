@@ -7,12 +7,12 @@ use Prim.Native.Nat.{ℕ, zero, suc, _+_, _-_, _*_, _^_, _≤_, _<_}
 use native.Mathlib.Omega.{arith}
 use native.Mathlib.Nat.{pow-le-pow-right}
 use lib.ListN.{length, length-append, replicate, length-replicate}
-use lib.IntN.{pos}
+use lib.IntN.{ℤ, pos, negsuc}
 use Rattle.rules.specs.Tests.{all, _&_, _≤?_, _=?_}
 use Rattle.rules.specs.Characters.{isBlank, isDigit}
 use Rattle.rules.specs.Digits.{val}
 use Rattle.rules.specs.Items.{Value, missing, num, number, height, numForm, heightForm, minus, signed, valueOf, fits, onNumber, width, shape, good}
-use Rattle.rules.specs.Forms.{NumberField, HeightField}
+use Rattle.rules.specs.Forms.{NumberField, Between, HeightField}
 use Rattle.rules.proofs.Truth.{both, and, to≤, of≤, no≤, to≡, of≡, of-within, to-within, cases, all-weaken, is-no, not-both}
 use Rattle.rules.proofs.SetLaws.{digits-in, digits-of}
 use Rattle.rules.proofs.DigitLaws.{notAbove9, val-lt}
@@ -209,9 +209,17 @@ module _ (sign : Bool) (ds : List ℕ) (h : all isDigit ds ≡ true) (some : 1 �
       by true = unfold heightForm isBlank _=?_ in and (of≤ some) h
       by false = digits-heightForm ds h
 
-module _ (w : ℕ) (may : Bool) where
+-- the minus and the value of all its columns are those of the parts
+pub split-value : (bs : List ℕ) (s : SplitHeight bs) → 1 ≤ length (s .digits) → signed (minus bs) (val 0 bs) ≡ signed (s .sign) (val 0 (s .digits))
+split-value bs s some =
+    let tail = cond (s .sign) (45 ∷ []) [] ++ s .digits in
+    ap₂ signed
+    (ap minus (s .spelled) ∙ minus-blanks (s .blank) tail ∙ signed-minus (s .sign) (s .digits) (s .decimal) some)
+    (ap (val 0) (s .spelled) ∙ val-blanks (s .blank) tail ∙ signed-value (s .sign) (s .digits) (s .decimal) some)
+
+module _ (w lo hi : ℕ) (may : Bool) where
   height-value : (k : ℕ) (sign : Bool) (ds : List ℕ) → all isDigit ds ≡ true → 1 ≤ length ds
-      → valueOf (height w may) (replicate k 32 ++ (cond sign (45 ∷ []) [] ++ ds)) ≡ num (signed sign (val 0 ds))
+      → valueOf (height w lo hi may) (replicate k 32 ++ (cond sign (45 ∷ []) [] ++ ds)) ≡ num (signed sign (val 0 ds))
   unfolding valueOf
   height-value k sign ds h s =
       rw (
@@ -222,33 +230,38 @@ module _ (w : ℕ) (may : Bool) where
         signed-value sign ds h s,
       )
 
-  pub height-blank : (bs : List ℕ) → all isBlank bs ≡ true → valueOf (height w may) bs ≡ missing
+  pub height-blank : (bs : List ℕ) → all isBlank bs ≡ true → valueOf (height w lo hi may) bs ≡ missing
   unfolding valueOf
   height-blank bs h = rw h
 
-  height-may-miss : fits (height w may) missing ≡ true → may ≡ true
+  height-may-miss : fits (height w lo hi may) missing ≡ true → may ≡ true
   unfolding fits onNumber
   height-may-miss h = h
 
-  height-missing : may ≡ true → fits (height w may) missing ≡ true
+  height-missing : may ≡ true → fits (height w lo hi may) missing ≡ true
   unfolding fits onNumber
   height-missing h = h
 
-  -- the form and the width leave no other range
-  pub up : (n : ℕ) → 1 ≤ w → n < 10 ^ w → fits (height w may) (num (signed false n)) ≡ true
-  unfolding fits signed onNumber
-  up n p h = and (of≤ p) (of≤ h)
+  -- the form and the width leave room for it, so the range alone decides
+  pub up : (n : ℕ) → 1 ≤ w → n < 10 ^ w → Between lo hi (signed false n) → fits (height w lo hi may) (num (signed false n)) ≡ true
+  unfolding fits signed onNumber Between
+  up n p h b = and (and (of≤ p) (of≤ h)) (of≤ b)
 
-  pub down : (n : ℕ) → 1 ≤ w → n < 10 ^ (w - 1) → fits (height w may) (num (signed true n)) ≡ true
-  unfolding fits signed onNumber
-  down zero p h = and (of≤ p) (of≤ (omega (arith, pow-le-pow-right {n = 10} (omega arith) {i = w - 1} {j = w} (omega arith))))
-  down (suc n) p h = and (of≤ p) (of≤ h)
+  pub down : (n : ℕ) → 1 ≤ w → n < 10 ^ (w - 1) → Between lo hi (signed true n) → fits (height w lo hi may) (num (signed true n)) ≡ true
+  unfolding fits signed onNumber Between
+  down zero p h b = and (and (of≤ p) (of≤ (omega (arith, pow-le-pow-right {n = 10} (omega arith) {i = w - 1} {j = w} (omega arith))))) (of≤ b)
+  down (suc n) p h b = and (and (of≤ p) (of≤ h)) (of≤ b)
 
-  height-fits : (sign : Bool) (ds : List ℕ) → all isDigit ds ≡ true → 1 ≤ length ds → length (cond sign (45 ∷ []) [] ++ ds) ≤ w → fits (height w may) (num (signed sign (val 0 ds))) ≡ true
-  height-fits true ds h s k =
+  height-fits : (sign : Bool) (ds : List ℕ) → all isDigit ds ≡ true → 1 ≤ length ds → length (cond sign (45 ∷ []) [] ++ ds) ≤ w → Between lo hi (signed sign (val 0 ds)) → fits (height w lo hi may) (num (signed sign (val 0 ds))) ≡ true
+  height-fits true ds h s k b =
       let short : length ds ≤ w - 1 = omega arith in
-      down (val 0 ds) (omega arith) (digits-lt (w - 1) ds h short)
-  height-fits false ds h s k = up (val 0 ds) (omega arith) (digits-lt w ds h k)
+      down (val 0 ds) (omega arith) (digits-lt (w - 1) ds h short) b
+  height-fits false ds h s k b = up (val 0 ds) (omega arith) (digits-lt w ds h k) b
+
+  pub height-between : (z : ℤ) → fits (height w lo hi may) (num z) ≡ true → Between lo hi z
+  unfolding fits onNumber Between
+  height-between (pos n) h = to≤ (both h .1)
+  height-between (negsuc n) h = to≤ (both h .1)
 
   height-only-blanks : (bs : List ℕ) (s : SplitHeight bs) → length bs ≡ w → 1 ≤? length (s .digits) ≡ false → bs ≡ replicate w 32
   height-only-blanks bs s e h =
@@ -257,41 +270,43 @@ module _ (w : ℕ) (may : Bool) where
       unsigned : s .sign ≡ false
       unsigned = is-no (s .sign) (λ x. omega (arith, s .some x, no≤ h))
 
-  pub height-forth : (bs : List ℕ) → good (height w may) bs ≡ true → HeightField w may bs (valueOf (height w may) bs)
+  pub height-forth : (bs : List ℕ) → good (height w lo hi may) bs ≡ true → HeightField w lo hi may bs (valueOf (height w lo hi may) bs)
   unfolding good shape width HeightField
   height-forth bs h =
       let size : length bs ≡ w = to≡ (both (both h .0) .0) in
       let s = split-height bs (both (both h .0) .1) in
       cases (1 ≤? length (s .digits))
       (λ some.
-      let v : valueOf (height w may) bs ≡ num (signed (s .sign) (val 0 (s .digits))) = ap (valueOf (height w may)) (s .spelled) ∙ height-value (s .blank) (s .sign) (s .digits) (s .decimal) (to≤ some) in
-      inr (signed (s .sign) (val 0 (s .digits)), size, record { blanks = s .blank; minus = s .sign; digits = s .digits; spelled = s .spelled; decimal = digits-in (s .digits) (s .decimal); some = to≤ some; value = refl }, v))
+      let v : valueOf (height w lo hi may) bs ≡ num (signed (s .sign) (val 0 (s .digits))) = ap (valueOf (height w lo hi may)) (s .spelled) ∙ height-value (s .blank) (s .sign) (s .digits) (s .decimal) (to≤ some) in
+      let b = height-between (signed (s .sign) (val 0 (s .digits))) (subst (λ x. fits (height w lo hi may) x ≡ true) v (both h .1)) in
+      inr (signed (s .sign) (val 0 (s .digits)), size, record { blanks = s .blank; minus = s .sign; digits = s .digits; spelled = s .spelled; decimal = digits-in (s .digits) (s .decimal); some = to≤ some; value = refl }, b, v))
       (λ none.
       let blank : bs ≡ replicate w 32 = height-only-blanks bs s size none in
-      let v : valueOf (height w may) bs ≡ missing = height-blank bs (rw blank (blanks w)) in
-      inl (height-may-miss (subst (λ x. fits (height w may) x ≡ true) v (both h .1)), blank, v))
+      let v : valueOf (height w lo hi may) bs ≡ missing = height-blank bs (rw blank (blanks w)) in
+      inl (height-may-miss (subst (λ x. fits (height w lo hi may) x ≡ true) v (both h .1)), blank, v))
 
-  pub height-back : (bs : List ℕ) (v : Value) → HeightField w may bs v → (good (height w may) bs ≡ true) × (valueOf (height w may) bs ≡ v)
+  pub height-back : (bs : List ℕ) (v : Value) → HeightField w lo hi may bs v → (good (height w lo hi may) bs ≡ true) × (valueOf (height w lo hi may) bs ≡ v)
   unfolding good shape width HeightField
   height-back bs v (inl x) =
-      let e : valueOf (height w may) bs ≡ missing = height-blank bs (rw (x .1) (blanks w)) in
+      let e : valueOf (height w lo hi may) bs ≡ missing = height-blank bs (rw (x .1) (blanks w)) in
       (and (and (of≡ (ap length (x .1) ∙ length-replicate {A = ℕ} w 32)) (rw (x .1) (blanks-heightForm _ (blanks w)))) (rw e (height-missing (x .0))), e ∙ sym (x .2))
-  height-back bs v (inr (z, size, i, q)) =
+  height-back bs v (inr (z, size, i, b, q)) =
       let ds : all isDigit (i .digits) ≡ true = digits-of (i .digits) (i .decimal) in
       let tail = cond (i .minus) (45 ∷ []) [] ++ i .digits in
       let long : length tail ≤ w = behind-blanks w (i .blanks) tail (sym (ap length (i .spelled)) ∙ size) in
-      let e : valueOf (height w may) bs ≡ num z = ap (valueOf (height w may)) (i .spelled) ∙ height-value (i .blanks) (i .minus) (i .digits) ds (i .some) ∙ ap num (sym (i .value)) in (
+      let e : valueOf (height w lo hi may) bs ≡ num z = ap (valueOf (height w lo hi may)) (i .spelled) ∙ height-value (i .blanks) (i .minus) (i .digits) ds (i .some) ∙ ap num (sym (i .value)) in (
         and (and (of≡ size) (rw (i .spelled) (heightForm-blanks (i .blanks) tail ∙ signed-form (i .minus) (i .digits) ds (i .some))))
-            (rw e (subst (λ x. fits (height w may) (num x) ≡ true) (sym (i .value)) (height-fits (i .minus) (i .digits) ds (i .some) long))),
+            (rw e (subst (λ x. fits (height w lo hi may) (num x) ≡ true) (sym (i .value)) (height-fits (i .minus) (i .digits) ds (i .some) long (subst (Between lo hi) (i .value) b)))),
         e ∙ sym q,
       )
 
-  -- whatever has the form and is not blank is a height of its own width
-  pub height-formed : (bs : List ℕ) → length bs ≡ w → heightForm bs ≡ true → all isBlank bs ≡ false → good (height w may) bs ≡ true
+  -- whatever has the form, is not blank and is of the range is a height of its own width
+  pub height-formed : (bs : List ℕ) → length bs ≡ w → heightForm bs ≡ true → all isBlank bs ≡ false → Between lo hi (signed (minus bs) (val 0 bs)) → good (height w lo hi may) bs ≡ true
   unfolding HeightField
-  height-formed bs size h some =
+  height-formed bs size h some b =
       let s = split-height bs h in
       cases (1 ≤? length (s .digits))
-      (λ k. height-back bs (num (signed (s .sign) (val 0 (s .digits))))
-      (inr (signed (s .sign) (val 0 (s .digits)), size, record { blanks = s .blank; minus = s .sign; digits = s .digits; spelled = s .spelled; decimal = digits-in (s .digits) (s .decimal); some = to≤ k; value = refl }, refl)) .0)
+      (λ k. let e : signed (minus bs) (val 0 bs) ≡ signed (s .sign) (val 0 (s .digits)) = split-value bs s (to≤ k) in
+      height-back bs (num (signed (s .sign) (val 0 (s .digits))))
+      (inr (signed (s .sign) (val 0 (s .digits)), size, record { blanks = s .blank; minus = s .sign; digits = s .digits; spelled = s .spelled; decimal = digits-in (s .digits) (s .decimal); some = to≤ k; value = refl }, subst (Between lo hi) e b, refl)) .0)
       (λ k. absurd (not-both (rw (height-only-blanks bs s size k) (blanks w)) some))

@@ -188,33 +188,33 @@ minus-form : (ds : List ℕ) → 1 ≤ length ds → all isDigit ds ≡ true →
 unfolding heightForm isBlank _=?_
 minus-form ds h k = and (of≤ h) k
 
-minus-value : (w : ℕ) (may : Bool) (n : ℕ) (ds : List ℕ) → val 0 ds ≡ suc n → valueOf (height w may) (45 ∷ ds) ≡ num (negsuc n)
+minus-value : (w lo hi : ℕ) (may : Bool) (n : ℕ) (ds : List ℕ) → val 0 ds ≡ suc n → valueOf (height w lo hi may) (45 ∷ ds) ≡ num (negsuc n)
 unfolding valueOf all isBlank minus val signed _=?_ _&_
-minus-value w may n ds h = rw h
+minus-value w lo hi may n ds h = rw h
 
-height-lawful : (w : ℕ) (may : Bool) → Lawful (height w may)
+height-lawful : (w lo hi : ℕ) (may : Bool) → Lawful (height w lo hi may)
 unfolding fits render shape valueOf width signed onNumber
-height-lawful w may gap h = absurd (false≢true h)
-height-lawful w may missing h =
+height-lawful w lo hi may gap h = absurd (false≢true h)
+height-lawful w lo hi may missing h =
     record { sized = length-replicate w 32; shaped = blanks-heightForm _ (blanks w); valued = rw (blanks w); printed = blanks-printable w }
-height-lawful w may (num (pos n)) h =
-    let big : 1 ≤ length (put w n) = omega (arith, length-put w n, to≤ (both h .0)) in
+height-lawful w lo hi may (num (pos n)) h =
+    let big : 1 ≤ length (put w n) = omega (arith, length-put w n, to≤ (both (both h .0) .0)) in
     record {
       sized = length-put w n;
       shaped = digits-heightForm _ (digits-put w n);
-      valued = rw (digits-not-blank (put w n) (digits-put w n) big, digits-no-minus (put w n) (digits-put w n), val-put w n (to≤ (both h .1)));
+      valued = rw (digits-not-blank (put w n) (digits-put w n) big, digits-no-minus (put w n) (digits-put w n), val-put w n (to≤ (both (both h .0) .1)));
       printed = digits-printable _ (digits-put w n);
     }
-height-lawful w may (num (negsuc n)) h =
+height-lawful w lo hi may (num (negsuc n)) h =
     let ds = digits-put (w - 1) (suc n) in
     record {
-      sized = omega (arith, length-put (w - 1) (suc n), to≤ (both h .0));
-      shaped = minus-form _ (omega (arith, length-put (w - 1) (suc n), room (w - 1) n (to≤ (both h .1)))) ds;
-      valued = minus-value w may n _ (val-put (w - 1) (suc n) (to≤ (both h .1)));
+      sized = omega (arith, length-put (w - 1) (suc n), to≤ (both (both h .0) .0));
+      shaped = minus-form _ (omega (arith, length-put (w - 1) (suc n), room (w - 1) n (to≤ (both (both h .0) .1)))) ds;
+      valued = minus-value w lo hi may n _ (val-put (w - 1) (suc n) (to≤ (both (both h .0) .1)));
       printed = minus-printable _ ds;
     }
-height-lawful w may (text t) h = absurd (false≢true h)
-height-lawful w may (label m d y s t) h = absurd (false≢true h)
+height-lawful w lo hi may (text t) h = absurd (false≢true h)
+height-lawful w lo hi may (label m d y s t) h = absurd (false≢true h)
 
 -- ---- angles
 dms-lt : (m : ℕ) → m ≤ 32_400_000_000 → dms m < 10 ^ 11
@@ -422,7 +422,7 @@ pub lawful : (i : Item) → Lawful i
 lawful (blank w) = blank-lawful w
 lawful (constant c) = constant-lawful c
 lawful (number w lo hi may) = number-lawful w lo hi may
-lawful (height w may) = height-lawful w may
+lawful (height w lo hi may) = height-lawful w lo hi may
 lawful (angle way) = angle-lawful way
 lawful month = month-lawful
 lawful media = media-lawful

@@ -6,10 +6,10 @@ use Prim.Native.Nat.{ℕ, _-_}
 use Prim.Native.String.{String}
 use lib.IntN.{pos, negsuc}
 use Rattle.rules.specs.Tests.{all, within, _&_, _≤?_, _=?_}
-use Rattle.rules.specs.Characters.{ascii, isBlank, isDigit}
+use Rattle.rules.specs.Characters.{ascii, isBlank, isDigit, isLetter, isPrintable, member}
 use Rattle.rules.specs.Digits.{val, put}
-use Rattle.rules.specs.Items.{Value, missing, num, latitude, longitude, Item, height, angle, numForm, heightForm, minus, signed, angleOf, dms, dmsForm, columns, top, low, plus, minusOf, angleValue, onNumber, width, shape, valueOf, fits, render, good}
-use Rattle.rules.specs.Layouts.{station, metres}
+use Rattle.rules.specs.Items.{Value, missing, num, latitude, longitude, Item, height, angle, numForm, heightForm, minus, signed, angleOf, dms, dmsForm, columns, top, low, plus, minusOf, angleValue, onNumber, width, shape, valueOf, fits, render, good, month, media, least, onLabel, isMonth, isMedia}
+use Rattle.rules.specs.Layouts.{station, metres, correlation, deviation, variance}
 use Rattle.rules.proofs.Lawful.{lawful, render-good}
 
 -- fault 9, or the value and what is written for it
@@ -48,13 +48,16 @@ exact i v h = (render-good i v (lawful i v h) h, lawful i v h .valued)
 pub ends :
     (fits metres (num (pos 0)) ∷ fits metres (num (pos 9_999_999)) ∷ fits metres (num (pos 10_000_000))
     ∷ fits metres (below-0 999_999) ∷ fits metres (below-0 1_000_000)
-    ∷ fits (height 5 false) (num (pos 0)) ∷ fits (height 5 false) (num (pos 99_999)) ∷ fits (height 5 false) (num (pos 100_000))
-    ∷ fits (height 5 false) (below-0 9_999) ∷ fits (height 5 false) (below-0 10_000) ∷ fits (height 5 false) missing
+    ∷ fits (height 5 9_999 99_999 false) (num (pos 0)) ∷ fits (height 5 9_999 99_999 false) (num (pos 99_999)) ∷ fits (height 5 9_999 99_999 false) (num (pos 100_000))
+    ∷ fits (height 5 9_999 99_999 false) (below-0 9_999) ∷ fits (height 5 9_999 99_999 false) (below-0 10_000) ∷ fits (height 5 9_999 99_999 false) missing
+    ∷ fits correlation (num (pos 0)) ∷ fits correlation (num (pos 99_999_999)) ∷ fits correlation (num (pos 100_000_000))
+    ∷ fits correlation (below-0 99_999_990) ∷ fits correlation (below-0 99_999_991) ∷ fits correlation missing
     ∷ fits (angle latitude) (num (pos 0)) ∷ fits (angle latitude) (num (pos 32_400_000_000)) ∷ fits (angle latitude) (num (pos 32_400_000_001))
     ∷ fits (angle latitude) (below-0 32_400_000_000) ∷ fits (angle latitude) (below-0 32_400_000_001)
     ∷ fits (angle longitude) (num (pos 64_800_000_000)) ∷ fits (angle longitude) (num (pos 64_800_000_001))
     ∷ fits (angle longitude) (below-0 64_799_999_999) ∷ fits (angle longitude) (below-0 64_800_000_000) ∷ [])
     ≡ (true ∷ true ∷ false ∷ true ∷ false ∷ true ∷ true ∷ false ∷ true ∷ false ∷ false
+    ∷ true ∷ true ∷ false ∷ true ∷ false ∷ false
     ∷ true ∷ true ∷ false ∷ true ∷ false ∷ true ∷ false ∷ true ∷ false ∷ [])
 unfolding fits onNumber top low below-0 _≤?_ _&_
 ends = refl
@@ -63,3 +66,17 @@ ends = refl
 pub half-metre : try metres "   -500" ≡ is (below-0 500) (ascii "-000500")
 unfolding try below-0
 half-metre = refl
+
+-- 02, T-02: the value that is laid behind a beginning is one that its kind of field holds
+pub least-held : all (λ i. fits i (least i)) (station ∷ month ∷ media ∷ metres ∷ correlation ∷ deviation ∷ variance ∷ angle latitude ∷ angle longitude ∷ []) ≡ true
+unfolding all fits least onNumber onLabel isMonth isMedia isLetter isDigit isPrintable member top within _≤?_ _=?_ _&_
+least-held = refl
+
+-- 02, T-03: a correlation by the height rule at its own width, with zero and both ends
+pub correlations :
+    (try correlation " -50000000" ∷ try correlation "  50000000" ∷ try correlation "        -0" ∷ try correlation " -99999990" ∷ try correlation " -99999991"
+    ∷ try correlation "  99999999" ∷ try correlation " 100000000" ∷ try correlation "0000000.50" ∷ try correlation "          " ∷ [])
+    ≡ (is (below-0 50_000_000) (ascii "-050000000") ∷ is (num (pos 50_000_000)) (ascii "0050000000") ∷ is (num (pos 0)) (ascii "0000000000") ∷ is (below-0 99_999_990) (ascii "-099999990") ∷ bad
+    ∷ is (num (pos 99_999_999)) (ascii "0099999999") ∷ bad ∷ bad ∷ bad ∷ [])
+unfolding try below-0
+correlations = refl

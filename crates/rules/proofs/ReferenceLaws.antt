@@ -10,9 +10,9 @@ use Rattle.rules.specs.Tests.{all, _&_, _≤?_, _=?_}
 use Rattle.rules.specs.Fields.{Check, isOk, run}
 use Rattle.rules.specs.Records.{Meaning}
 use Rattle.rules.specs.Files.{isAccept, refer}
-use Rattle.rules.specs.Kinds.{kindOf, *25*, *80*}
+use Rattle.rules.specs.Kinds.{kindOf, *80*}
 use Rattle.rules.specs.Members.{_∈_}
-use Rattle.rules.specs.References.{Family, stations, instruments, antennas, families, ofFirst, isA, numberAt, defines, definerFrom, definer, asked, namedCheck, refChecks, tabulate, hasWord, wordAt, words, blankRecord, Defines, Named, Referred}
+use Rattle.rules.specs.References.{Family, stations, instruments, antennas, families, Naming, namings, ofFirst, isA, numberAt, defines, definerFrom, definer, asked, namedCheck, refChecks, tabulate, hasWord, wordAt, words, blankRecord, Defines, Named, Referred}
 use Rattle.rules.specs.Chapter4.{chapter4}
 use Rattle.rules.proofs.Truth.{all-members, members-all, both, and, to≤, of≤, no≤, to≡, of≡, no≡, of≢, to-within, of-within, cases, either, not-both, below-or-equal}
 use Rattle.rules.proofs.FieldLaws.{isOk-⨾, isOk-check}
@@ -63,9 +63,20 @@ pub antennas-in : antennas ∈ families
 unfolding _∈_
 antennas-in = inr (inr (inl refl))
 
+-- what is named is of a family
+pub family-in : (N : Naming) → N ∈ namings → N .family ∈ families
+unfolding _∈_
+family-in N (inl e) = rw e stations-in
+family-in N (inr (inl e)) = rw e stations-in
+family-in N (inr (inr (inl e))) = rw e stations-in
+family-in N (inr (inr (inr (inl e)))) = rw e stations-in
+family-in N (inr (inr (inr (inr (inl e))))) = rw e instruments-in
+family-in N (inr (inr (inr (inr (inr (inl e)))))) = rw e antennas-in
+family-in N (inr (inr (inr (inr (inr (inr i)))))) = absurd i
+
 -- each has its words in the table, and two that share a kind or a word are one
 unfoldable alike : Family → Family → Bool
-alike F G = F .kind =? G .kind & F .base =? G .base & F .most =? G .most & F .width =? G .width & F .named =? G .named
+alike F G = F .kind =? G .kind & F .base =? G .base & F .most =? G .most & F .width =? G .width
 
 unfoldable apart : Family → Family → Bool
 apart F G = asked (F .kind =? G .kind) (alike F G) & asked (F .base ≤? G .base + G .most & G .base ≤? F .base + F .most) (alike F G)
@@ -77,11 +88,10 @@ families-tabled = refl
 alike-is : (F G : Family) → alike F G ≡ true → F ≡ G
 unfolding alike
 alike-is F G h j = record {
-  kind = to≡ (both (both (both (both h .0) .0) .0) .0) j;
-  base = to≡ (both (both (both (both h .0) .0) .0) .1) j;
-  most = to≡ (both (both (both h .0) .0) .1) j;
-  width = to≡ (both (both h .0) .1) j;
-  named = to≡ (both h .1) j;
+  kind = to≡ (both (both (both h .0) .0) .0) j;
+  base = to≡ (both (both (both h .0) .0) .1) j;
+  most = to≡ (both (both h .0) .1) j;
+  width = to≡ (both h .1) j;
 }
 
 pub when-asked : (a b : Bool) → asked a b ≡ true → a ≡ true → b ≡ true
@@ -210,31 +220,31 @@ module _ (file : List Meaning) where
 -- what is asked of one record
 pub record Asked (file : List Meaning) (r : ℕ) (m : Meaning) : Type 0 where
   pub first-80 : isA *80* m ≡ true → definer *80* (numberAt 11 m) file ≡ r
-  pub named : isA *25* m ≡ true → (F : Family) → F ∈ families → 1 ≤? definer (F .kind) (numberAt (F .named) m) file ≡ true
+  pub named : (N : Naming) → N ∈ namings → isA (N .by) m ≡ true → 1 ≤? definer (N .family .kind) (numberAt (N .column) m) file ≡ true
 
-run-each : (f : Family → Check) (Fs : List Family) → isOk (run (map f Fs)) ≡ all (λ F. f F .test) Fs
+run-each : (f : Naming → Check) (Ns : List Naming) → isOk (run (map f Ns)) ≡ all (λ N. f N .test) Ns
 unfolding run isOk all
 run-each f [] = refl
-run-each f (F ∷ Fs) = isOk-⨾ _ _ ∙ ap₂ _&_ (isOk-check (f F .test) (f F .number) (f F .column)) (run-each f Fs)
+run-each f (N ∷ Ns) = isOk-⨾ _ _ ∙ ap₂ _&_ (isOk-check (f N .test) (f N .number) (f N .column)) (run-each f Ns)
 
-run-tests : (file : List Meaning) (r : ℕ) (m : Meaning) → isOk (run (refChecks file r m)) ≡ asked (isA *80* m) (definer *80* (numberAt 11 m) file =? r) & all (λ F. namedCheck file m F .test) families
+run-tests : (file : List Meaning) (r : ℕ) (m : Meaning) → isOk (run (refChecks file r m)) ≡ asked (isA *80* m) (definer *80* (numberAt 11 m) file =? r) & all (λ N. namedCheck file m N .test) namings
 unfolding run refChecks
-run-tests file r m = isOk-⨾ _ _ ∙ ap₂ _&_ (isOk-check _ 11 11) (run-each (namedCheck file m) families)
+run-tests file r m = isOk-⨾ _ _ ∙ ap₂ _&_ (isOk-check _ 11 11) (run-each (namedCheck file m) namings)
 
 run-asked : (file : List Meaning) (r : ℕ) (m : Meaning) → isOk (run (refChecks file r m)) ≡ true → Asked file r m
 run-asked file r m h =
     let t = both (sym (run-tests file r m) ∙ h) in
     record {
       first-80 = λ e. to≡ (when-asked _ _ (t .0) e);
-      named = λ e F i. when-asked _ _ (all-members (λ G. namedCheck file m G .test) families (t .1) F i) e;
+      named = λ N i e. when-asked _ _ (all-members (λ K. namedCheck file m K .test) namings (t .1) N i) e;
     }
 
 asked-run : (file : List Meaning) (r : ℕ) (m : Meaning) → Asked file r m → isOk (run (refChecks file r m)) ≡ true
 asked-run file r m a =
     run-tests file r m
-    ∙ and (if-asked _ _ (λ e. of≡ (a .first-80 e))) (members-all (λ G. namedCheck file m G .test) families (λ F i. if-asked _ _ (λ e. a .named e F i)))
+    ∙ and (if-asked _ _ (λ e. of≡ (a .first-80 e))) (members-all (λ K. namedCheck file m K .test) namings (λ N i. if-asked _ _ (λ e. a .named N i e)))
 
--- "defined by its *80*, and by one only; each *25* names a defined station, instrument and antenna"
+-- "defined by its *80*, and by one only; each *25* names a defined station, instrument and antenna"; "each station they name must be defined"
 pub references-iff : (ms : List Meaning) → (isAccept (refer chapter4 ms 1 ms) ≡ true) ↔ Referred ms
 unfolding Named Defines isA
 references-iff ms = (forth, back)
@@ -246,13 +256,13 @@ references-iff ms = (forth, back)
         = λ n i x. subst (λ j. definer *80* j ms ≡ 1 + i) (x .2) (own i (x .0) .first-80 (of≡ (x .1))) in
         record {
           one-only = λ n i j x y. omega (arith, the n i x, the n j y);
-          named = λ i k e F f. defined-iff (F .kind) _ ms .0 (own i k .named (of≡ e) F f);
+          named = λ N n i k e. defined-iff (N .family .kind) _ ms .0 (own i k .named N n (of≡ e));
         }
 
     back : Referred ms → isAccept (refer chapter4 ms 1 ms) ≡ true
     back g = refer-all ms 1 ms (λ i k. asked-run ms (1 + i) (getD ms i blankRecord) record {
       first-80 = λ e. let x : Defines ms *80* (numberAt 11 (getD ms i blankRecord)) i = (k, to≡ e, refl) in omega (arith, definer-first *80* _ ms i x (λ j y. eq-le (g .one-only _ i j x y)));
-      named = λ e F f. defined-iff (F .kind) _ ms .1 (g .named i k (to≡ e) F f);
+      named = λ N n e. defined-iff (N .family .kind) _ ms .1 (g .named N n i k (to≡ e));
     })
       where
         eq-le : {i j : ℕ} → i ≡ j → i ≤ j

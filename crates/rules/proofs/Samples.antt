@@ -85,13 +85,13 @@ abbrev r-heights2 : String
 r-heights2 = "      *86*0002                        -5006                                     \n"
 
 abbrev r-network : String
-r-network = "      *91*0001                                                                  \n"
+r-network = "      *91*0001             1230000000098  -1234567       250    NNETWORK        \n"
 
 abbrev r-local : String
-r-local = "      *92*0001 0002                                                             \n"
+r-local = "      *92*0001     2  0000000045        50        -00000000120    YLOCAL        \n"
 
 abbrev r-factor : String
-r-factor = "      *93*1.00                                                                  \n"
+r-factor = "      *93*    100000009999FACTORS                                               \n"
 
 abbrev r-last : String
 r-last = "      *A1*                                                                      \n"
@@ -138,6 +138,18 @@ r-dressed1 = "     7*80*   1HILL 1931                     38531512345N1800000000
 abbrev r-station0 : String
 r-station0 = "      *25*0000T0334BDOCK    11  006                                             \n"
 
+abbrev r-network3 : String
+r-network3 = "      *91*0003             1230000000098  -1234567       250    NNETWORK        \n"
+
+abbrev r-local3 : String
+r-local3 = "      *92*0003     2  0000000045        50        -00000000120    YLOCAL        \n"
+
+abbrev r-local17 : String
+r-local17 = "      *92*0001     3  0000000045        50        -00000000120    YLOCAL        \n"
+
+abbrev r-local-itself : String
+r-local-itself = "      *92*0001     1  0000000045        50        -00000000120    YLOCAL        \n"
+
 abbrev r-local26 : String
 r-local26 = "      *26*WIND                                                                  \n"
 
@@ -157,7 +169,8 @@ full-accepted = refl
 abbrev pub malformedLater : List String
 malformedLater = r-job ∷ r-title ∷ r-more ∷ r-project ∷ r-occupy1 ∷ r-comment ∷ r-begin1 ∷ r-end1 ∷ r-stranger ∷ r-strange3 ∷ r-strange3 ∷ r-strange3 ∷ r-receiver1 ∷ r-receiver2 ∷ r-aerial1 ∷ r-aerial2 ∷ r-point1 ∷ r-heights1 ∷ r-point2 ∷ r-heights1 ∷ r-network ∷ r-local ∷ r-factor ∷ r-last ∷ []
 
--- ---- refused files, each with its number, record and column; a *25* is judged against the *80* records of the whole file
+-- ---- refused files, each with its number, record and column; a *25* is judged against the *80* records of the whole file, a *92* of one station (10)
+-- goes before the undefined station of an earlier *25*, and a repeated *80* before the undefined station of a *91* behind it
 pub refusals :
     (judged ("000010*A1*" ∷ [])
     ∷ judged (r-tabbed ∷ [])
@@ -179,6 +192,11 @@ pub refusals :
     ∷ judged (r-job ∷ r-title ∷ r-more ∷ r-project ∷ r-occupy1 ∷ r-comment ∷ r-begin1 ∷ r-end1 ∷ r-stranger28 ∷ r-begin2 ∷ r-begin2 ∷ r-begin2 ∷ r-receiver1 ∷ r-receiver2 ∷ r-aerial1 ∷ r-aerial2 ∷ r-point1 ∷ r-heights1 ∷ r-point2 ∷ r-heights2 ∷ r-network ∷ r-local ∷ r-factor ∷ r-last ∷ [])
     ∷ judged (r-job ∷ r-title ∷ r-more ∷ r-project ∷ r-occupy1 ∷ r-comment ∷ r-begin1 ∷ r-end1 ∷ r-stranger33 ∷ r-begin2 ∷ r-begin2 ∷ r-begin2 ∷ r-receiver1 ∷ r-receiver2 ∷ r-aerial1 ∷ r-aerial2 ∷ r-point1 ∷ r-heights1 ∷ r-point2 ∷ r-heights2 ∷ r-network ∷ r-local ∷ r-factor ∷ r-last ∷ [])
     ∷ judged malformedLater
+    ∷ judged (r-job ∷ r-title ∷ r-more ∷ r-project ∷ r-occupy1 ∷ r-comment ∷ r-begin1 ∷ r-end1 ∷ r-occupy2 ∷ r-begin2 ∷ r-begin2 ∷ r-begin2 ∷ r-receiver1 ∷ r-receiver2 ∷ r-aerial1 ∷ r-aerial2 ∷ r-point1 ∷ r-heights1 ∷ r-point2 ∷ r-heights2 ∷ r-network ∷ r-network3 ∷ r-local ∷ r-factor ∷ r-last ∷ [])
+    ∷ judged (r-job ∷ r-title ∷ r-more ∷ r-project ∷ r-occupy1 ∷ r-comment ∷ r-begin1 ∷ r-end1 ∷ r-occupy2 ∷ r-begin2 ∷ r-begin2 ∷ r-begin2 ∷ r-receiver1 ∷ r-receiver2 ∷ r-aerial1 ∷ r-aerial2 ∷ r-point1 ∷ r-heights1 ∷ r-point2 ∷ r-heights2 ∷ r-network ∷ r-local3 ∷ r-factor ∷ r-last ∷ [])
+    ∷ judged (r-job ∷ r-title ∷ r-more ∷ r-project ∷ r-occupy1 ∷ r-comment ∷ r-begin1 ∷ r-end1 ∷ r-occupy2 ∷ r-begin2 ∷ r-begin2 ∷ r-begin2 ∷ r-receiver1 ∷ r-receiver2 ∷ r-aerial1 ∷ r-aerial2 ∷ r-point1 ∷ r-heights1 ∷ r-point2 ∷ r-heights2 ∷ r-network ∷ r-network ∷ r-local ∷ r-local17 ∷ r-factor ∷ r-last ∷ [])
+    ∷ judged (r-job ∷ r-title ∷ r-more ∷ r-project ∷ r-occupy1 ∷ r-comment ∷ r-begin1 ∷ r-end1 ∷ r-stranger ∷ r-strange3 ∷ r-strange3 ∷ r-strange3 ∷ r-receiver1 ∷ r-receiver2 ∷ r-aerial1 ∷ r-aerial2 ∷ r-point1 ∷ r-heights1 ∷ r-point2 ∷ r-heights2 ∷ r-network ∷ r-local-itself ∷ r-factor ∷ r-last ∷ [])
+    ∷ judged (r-job ∷ r-title ∷ r-more ∷ r-project ∷ r-occupy1 ∷ r-comment ∷ r-begin1 ∷ r-end1 ∷ r-occupy2 ∷ r-begin2 ∷ r-begin2 ∷ r-begin2 ∷ r-receiver1 ∷ r-receiver2 ∷ r-aerial1 ∷ r-aerial2 ∷ r-point1 ∷ r-heights1 ∷ r-point2 ∷ r-heights2 ∷ r-again ∷ r-again86 ∷ r-network3 ∷ r-local ∷ r-factor ∷ r-last ∷ [])
     ∷ [])
     ≡ (refuse 3 1 11
     ∷ refuse 4 1 12
@@ -200,6 +218,11 @@ pub refusals :
     ∷ refuse 12 9 28
     ∷ refuse 12 9 33
     ∷ refuse 10 20 11
+    ∷ refuse 12 22 11
+    ∷ refuse 12 22 11
+    ∷ refuse 12 24 17
+    ∷ refuse 10 22 17
+    ∷ refuse 11 21 11
     ∷ [])
 unfolding judged
 refusals = refl

@@ -359,7 +359,7 @@ unfolding Spells
 forth (blank w) bs h = blank-forth w bs h
 forth (constant c) bs h = constant-forth c bs h
 forth (number w lo hi may) bs h = number-forth w lo hi may bs h
-forth (height w may) bs h = height-forth w may bs h
+forth (height w lo hi may) bs h = height-forth w lo hi may bs h
 forth (angle way) bs h = angle-forth way bs h
 forth month bs h = month-forth bs h
 forth media bs h = media-forth bs h
@@ -371,7 +371,7 @@ unfolding Spells
 back (blank w) bs v x = let fine = blank-back w bs (x .0) in (fine .0, fine .1 ∙ sym (x .1))
 back (constant c) bs v x = let fine = constant-back c bs (x .0) (x .1) in (fine .0, fine .1 ∙ sym (x .2))
 back (number w lo hi may) bs v x = number-back w lo hi may bs v x
-back (height w may) bs v x = height-back w may bs v x
+back (height w lo hi may) bs v x = height-back w lo hi may bs v x
 back (angle way) bs v x = angle-back way bs v x
 back month bs v x = month-back bs v x
 back media bs v x = media-back bs v x

@@ -11,10 +11,10 @@ use Rattle.rules.specs.Tests.{all, _&_, _=?_}
 use Rattle.rules.specs.Items.{Value, gap, missing, num, text, label, Item, blank, constant, number, height, angle, month, media, word, fits, onNumber}
 use Rattle.rules.specs.Fields.{Field, given, entriesOf, valueAt, numOf, isFormed, formed}
 use Rattle.rules.specs.Records.{Meaning, told, meant}
-use Rattle.rules.specs.Kinds.{kindOf, known, *25*}
+use Rattle.rules.specs.Kinds.{kindOf, known}
 use Rattle.rules.specs.Layouts.{at, kept, layouts, layout}
 use Rattle.rules.specs.Members.{_∈_}
-use Rattle.rules.specs.References.{Family, families, isA, numberAt, defines, definerFrom, definer, tabulate, hasWord, wordAt, words, slotOf, mark, filled, tally, counts, sum}
+use Rattle.rules.specs.References.{Family, families, Naming, namings, isA, numberAt, defines, definerFrom, definer, tabulate, hasWord, wordAt, words, slotOf, mark, filled, tally, counts, sum}
 use Rattle.rules.specs.Chapter4.{chapter4}
 use Rattle.rules.proofs.Truth.{all-members, both, to≤, to≡, of≡, no≡, of≢, is-no, cases, either, not-both, true-and, to-within, of-within, below-or-equal}
 use Rattle.rules.proofs.ReferenceLaws.{one-or-none, first-is, first-none, word-range, in-table, same-kind, families-apart, tabulate-at, length-words, word-at}
@@ -34,7 +34,7 @@ unfoldable pub isNumberOf : Family → Item → Bool
 isNumberOf F (blank w) = false
 isNumberOf F (constant c) = false
 isNumberOf F (number w lo hi may) = w =? F .width & lo =? 1 & hi =? F .most & not may
-isNumberOf F (height w may) = false
+isNumberOf F (height w lo hi may) = false
 isNumberOf F (angle way) = false
 isNumberOf F month = false
 isNumberOf F media = false
@@ -44,10 +44,14 @@ unfoldable pub hasNumberAt : Family → ℕ → List Field → Bool
 hasNumberAt F c [] = false
 hasNumberAt F c (f ∷ fs) = cond (f .from =? c) (isNumberOf F (f .item)) (hasNumberAt F c fs)
 
--- the layouts have one at column 11 of the family's kind, and at the column at which a *25* names it
-families-ranged : all (λ F. hasNumberAt F 11 (getD layouts (F .kind) kept) & hasNumberAt F (F .named) (getD layouts *25* kept)) families ≡ true
+-- the layouts have one at column 11 of the family's kind, and at the columns at which a record names it
+families-ranged : all (λ F. hasNumberAt F 11 (getD layouts (F .kind) kept)) families ≡ true
 unfolding all hasNumberAt isNumberOf layouts _=?_ _&_
 families-ranged = refl
+
+namings-ranged : all (λ N. hasNumberAt (N .family) (N .column) (getD layouts (N .by) kept)) namings ≡ true
+unfolding all hasNumberAt isNumberOf layouts _=?_ _&_
+namings-ranged = refl
 
 module _ (F : Family) where
   pub number-is : (i : Item) → isNumberOf F i ≡ true → i ≡ number (F .width) 1 (F .most) false
@@ -56,7 +60,7 @@ module _ (F : Family) where
   number-is (constant c) e = absurd (false≢true e)
   number-is (number w lo hi true) e = absurd (false≢true (both e .1))
   number-is (number w lo hi false) e = rw (to≡ (both (both (both e .0) .0) .0), to≡ (both (both (both e .0) .0) .1), to≡ (both (both e .0) .1))
-  number-is (height w may) e = absurd (false≢true e)
+  number-is (height w lo hi may) e = absurd (false≢true e)
   number-is (angle way) e = absurd (false≢true e)
   number-is month e = absurd (false≢true e)
   number-is media e = absurd (false≢true e)
@@ -82,17 +86,17 @@ module _ (F : Family) where
 
   module _ (i : F ∈ families) where
     pub own-field : hasNumberAt F 11 (getD layouts (F .kind) kept) ≡ true
-    own-field = both (all-members _ families families-ranged F i) .0
+    own-field = all-members _ families families-ranged F i
 
-    pub named-field : hasNumberAt F (F .named) (getD layouts *25* kept) ≡ true
-    named-field = both (all-members _ families families-ranged F i) .1
+    pub own-range : (m : Meaning) → meant chapter4 m ≡ true → isA (F .kind) m ≡ true → (1 ≤ numberAt 11 m) × (numberAt 11 m ≤ F .most)
+    own-range m h e = at-column 11 (F .kind) m h e own-field
 
-    module _ (m : Meaning) (h : meant chapter4 m ≡ true) where
-      pub own-range : isA (F .kind) m ≡ true → (1 ≤ numberAt 11 m) × (numberAt 11 m ≤ F .most)
-      own-range e = at-column 11 (F .kind) m h e own-field
+module _ (N : Naming) (i : N ∈ namings) where
+  pub named-field : hasNumberAt (N .family) (N .column) (getD layouts (N .by) kept) ≡ true
+  named-field = all-members _ namings namings-ranged N i
 
-      pub named-range : isA *25* m ≡ true → (1 ≤ numberAt (F .named) m) × (numberAt (F .named) m ≤ F .most)
-      named-range e = at-column (F .named) *25* m h e named-field
+  pub named-range : (m : Meaning) → meant chapter4 m ≡ true → isA (N .by) m ≡ true → (1 ≤ numberAt (N .column) m) × (numberAt (N .column) m ≤ N .family .most)
+  named-range m h e = at-column (N .family) (N .column) (N .by) m h e named-field
 
 -- ---- which word a record defines
 slot-of : (F : Family) → F ∈ families → (m : Meaning) → isA (F .kind) m ≡ true → slotOf m ≡ F .base + numberAt 11 m

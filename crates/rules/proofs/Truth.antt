@@ -1,7 +1,7 @@
 -- What tests that hold say, and their algebra.
 use mathlib.Core.Path.{_≡_, refl, sym, _∙_, ap}
 use mathlib.Core.Logic.{_⊎_, inl, inr}
-use mathlib.Core.Bool.{Bool, true, false, cond, _&&_, _||_, false≢true}
+use mathlib.Core.Bool.{Bool, true, false, cond, not, _&&_, _||_, false≢true}
 use mathlib.Core.List.{List, [], _∷_, _++_}
 use Prim.Native.Nat.{ℕ, zero, suc, _≤_, _<_}
 use native.Mathlib.Omega.{arith}
@@ -52,6 +52,10 @@ cases false f g = g refl
 pub is-no : (t : Bool) → (t ≡ true → ⊥) → t ≡ false
 is-no true f = absurd (f refl)
 is-no false f = refl
+
+pub not-true : (t : Bool) → not t ≡ true → t ≡ false
+not-true true h = absurd (false≢true h)
+not-true false h = refl
 
 pub not-both : {t : Bool} → t ≡ true → t ≡ false → ⊥
 not-both h k = false≢true (sym k ∙ h)

@@ -10,7 +10,7 @@ use Rattle.rules.specs.Members.{_∈_, _⊆_}
 use Rattle.rules.specs.Characters.{printable}
 use Rattle.rules.specs.Items.{Value, gap, missing, text}
 use Rattle.rules.specs.Forms.{charactersOf, Spells, Code}
-use Rattle.rules.specs.Fields.{Bond, free, notBefore, goesWith, expected, Field, columnsOf, valueAt, numOf}
+use Rattle.rules.specs.Fields.{Bond, free, notBefore, goesWith, differs, expected, Field, columnsOf, valueAt, numOf}
 use Rattle.rules.specs.Records.{Meaning, sequence, codeAt, meaning, told}
 use Rattle.rules.specs.Files.{lineAt, begun, meanings}
 use Rattle.rules.specs.Kinds.{kindOf, *AA*, *25*, *27*, *70*, *72*, *80*, *86*}
@@ -63,11 +63,12 @@ Place f (suc i) p =
 unfoldable pub Absent : Value → Type 0
 Absent v = (v ≡ gap) ⊎ ((v ≡ missing) ⊎ ((w : ℕ) × (v ≡ text (replicate w 32))))
 
--- 01, *12*: "the end not before the beginning"; *86*: "blank exactly when their height is missing"
+-- 01, *12*: "the end not before the beginning"; *86*: "blank exactly when their height is missing"; 02, T-03, *92*: "where a record names two they differ"
 unfoldable pub Agreed : Meaning → Bond → Value → Type 0
 Agreed m free v = Unit {0}
 Agreed m (notBefore c) v = numberAt c m ≤ numOf v
 Agreed m (goesWith c) v = Absent v ↔ Absent (valueAt c (told chapter4 m))
+Agreed m (differs c) v = numberAt c m ≡ numOf v → ⊥
 Agreed m expected v = Unit {0}  -- with another record: below
 
 -- ---- record i + 1 of a file

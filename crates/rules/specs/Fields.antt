@@ -13,6 +13,7 @@ pub data Bond : Type 0 where
   free : Bond
   notBefore : ℕ → Bond  -- not before the value that starts at this column
   goesWith : ℕ → Bond  -- blank exactly when the value that starts at this column is missing
+  differs : ℕ → Bond  -- is another number than the one that starts at this column
   expected : Bond  -- with what went before in the file
 
 pub record Field : Type 0 where
@@ -119,11 +120,12 @@ meets anything n = true
 meets (same k) n = n =? k
 meets (above k) n = k + 1 ≤? n
 
--- 01, *12* (the end not before the beginning), *86* (codes and heights), *27* *70* *72* *86* (column 11)
+-- 01, *12* (the end not before the beginning), *86* (codes and heights), *27* *70* *72* *86* (column 11); 02, T-03, *92* ("where a record names two they differ")
 unfoldable pub agreesWith : Expect → List Entry → Bond → Value → Bool
 agreesWith e xs free v = true
 agreesWith e xs (notBefore c) v = numOf (valueAt c xs) ≤? numOf v
 agreesWith e xs (goesWith c) v = sameTruth (isMissing (valueAt c xs)) (isMissing v)
+agreesWith e xs (differs c) v = not (numOf (valueAt c xs) =? numOf v)
 agreesWith e xs expected v = meets e (numOf v)
 
 unfoldable pub agrees : Expect → List Entry → Entry → Bool

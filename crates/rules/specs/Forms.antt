@@ -5,7 +5,7 @@ use mathlib.Core.Bool.{Bool, true, cond}
 use mathlib.Core.List.{List, [], _∷_, _++_}
 use Prim.Native.Nat.{ℕ, _+_, _-_, _*_, _≤_, _<_}
 use lib.ListN.{length, replicate, getD}
-use lib.IntN.{ℤ, pos, negℤ}
+use lib.IntN.{ℤ, pos, negsuc, negℤ}
 use Rattle.rules.specs.Members.{_∈_, _⊆_}
 use Rattle.rules.specs.Characters.{ascii, isPrintable, Set, letter, digit, space, printable, title, name, only, _or_}
 use Rattle.rules.specs.Digits.{val, put}
@@ -49,9 +49,16 @@ pub record IsHeight (z : ℤ) (bs : List ℕ) : Type 0 where
   pub some : 1 ≤ length digits
   pub value : z ≡ signed minus (val 0 digits)
 
--- "all blank is missing"; else a height, of any value that the form leaves room for
-unfoldable pub HeightField : ℕ → Bool → List ℕ → Value → Type 0
-HeightField w may bs v = ((may ≡ true) × (bs ≡ replicate w 32) × (v ≡ missing)) ⊎ ((z : ℤ) × (length bs ≡ w) × IsHeight z bs × (v ≡ num z))
+-- from -lo to hi
+unfoldable pub Between : (lo hi : ℕ) → ℤ → Type 0
+Between lo hi (pos n) = n ≤ hi
+Between lo hi (negsuc n) = n < lo
+
+-- "all blank is missing", where a field says it may be; else a signed number of the field's range
+unfoldable pub HeightField : (w lo hi : ℕ) → Bool → List ℕ → Value → Type 0
+HeightField w lo hi may bs v =
+    ((may ≡ true) × (bs ≡ replicate w 32) × (v ≡ missing))
+    ⊎ ((z : ℤ) × (length bs ≡ w) × IsHeight z bs × Between lo hi z × (v ≡ num z))
 
 -- ---- 01, "Angle": "degrees, minutes, seconds with five decimals. Minutes and whole seconds below 60"; w columns of degrees
 pub record IsAngle (m w : ℕ) (bs : List ℕ) : Type 0 where
@@ -117,7 +124,7 @@ unfoldable pub Spells : Item → List ℕ → Value → Type 0
 Spells (blank w) bs v = (bs ≡ replicate w 32) × (v ≡ gap)
 Spells (constant c) bs v = (bs ≡ c ∷ []) × (c ∈ charactersOf printable) × (v ≡ gap)
 Spells (number w lo hi may) bs v = NumberField w lo hi may bs v
-Spells (height w may) bs v = HeightField w may bs v
+Spells (height w lo hi may) bs v = HeightField w lo hi may bs v
 Spells (angle way) bs v = AngleField way bs v
 Spells month bs v = MonthField bs v
 Spells media bs v = MediaField bs v

@@ -33,7 +33,7 @@ pub data Item : Type 0 where
   blank : ℕ → Item  -- columns
   constant : ℕ → Item  -- the character
   number : (w lo hi : ℕ) → Bool → Item  -- columns, range, whether it may be missing
-  height : ℕ → Bool → Item  -- columns, whether it may be missing
+  height : (w lo hi : ℕ) → Bool → Item  -- signed, at any width: columns, range from -lo to hi, whether it may be missing
   angle : Way → Item  -- with its letter
   month : Item  -- YYYYMM
   media : Item  -- media identifier
@@ -45,7 +45,7 @@ unfoldable pub numForm : List ℕ → Bool
 numForm [] = true
 numForm (b ∷ bs) = cond (isBlank b) (numForm bs) (all isDigit (b ∷ bs))
 
--- 01, "Signed height": blanks, an optional minus, then digits to the end, at least one; or all blank
+-- 01, "Signed height", 02, T-03, "a signed field by 01's height rule at its own width": blanks, an optional minus, then digits to the end, at least one; or all blank
 unfoldable pub heightForm : List ℕ → Bool
 heightForm [] = true
 heightForm (b ∷ bs) = cond (isBlank b) (heightForm bs) (cond (b =? 45) (1 ≤? length bs & all isDigit bs) (all isDigit (b ∷ bs)))
@@ -148,7 +148,7 @@ unfoldable pub width : Item → ℕ
 width (blank w) = w
 width (constant c) = 1
 width (number w lo hi may) = w
-width (height w may) = w
+width (height w lo hi may) = w
 width (angle way) = suc (columns way)
 width month = 6
 width media = 10
@@ -159,7 +159,7 @@ unfoldable pub shape : Item → List ℕ → Bool
 shape (blank w) bs = all isBlank bs
 shape (constant c) bs = all (λ b. b =? c) bs
 shape (number w lo hi may) bs = numForm bs
-shape (height w may) bs = heightForm bs
+shape (height w lo hi may) bs = heightForm bs
 shape (angle way) bs =
     all isDigit (take (columns way) bs)
     & dmsForm (val 0 (take (columns way) bs))
@@ -173,7 +173,7 @@ unfoldable pub valueOf : Item → List ℕ → Value
 valueOf (blank w) bs = gap
 valueOf (constant c) bs = gap
 valueOf (number w lo hi may) bs = cond (all isBlank bs) missing (num (pos (val 0 bs)))
-valueOf (height w may) bs = cond (all isBlank bs) missing (num (signed (minus bs) (val 0 bs)))
+valueOf (height w lo hi may) bs = cond (all isBlank bs) missing (num (signed (minus bs) (val 0 bs)))
 valueOf (angle way) bs = num (angleValue way (angleOf (val 0 (take (columns way) bs))) (getD bs (columns way) 0))
 valueOf month bs = num (pos (val 0 bs))
 valueOf media bs = label (getD bs 0 0) (val 0 (take 3 (drop 1 bs))) (val 0 (take 1 (drop 4 bs))) (getD bs 5 0) (drop 6 bs)
@@ -184,7 +184,7 @@ unfoldable pub fits : Item → Value → Bool
 fits (blank w) = onGap false true
 fits (constant c) = onGap false (isPrintable c)
 fits (number w lo hi may) = onNumber false may (λ n. 1 ≤? w & suc n ≤? 10 ^ w & within lo hi n) (λ n. false)
-fits (height w may) = onNumber false may (λ n. 1 ≤? w & suc n ≤? 10 ^ w) (λ n. 1 ≤? w & suc n ≤? 10 ^ (w - 1))
+fits (height w lo hi may) = onNumber false may (λ n. 1 ≤? w & suc n ≤? 10 ^ w & n ≤? hi) (λ n. 1 ≤? w & suc n ≤? 10 ^ (w - 1) & n ≤? lo)
 fits (angle way) = onNumber false false (λ n. n ≤? top way) (λ n. n ≤? low way)
 fits month = onNumber false false isMonth (λ n. false)
 fits media = onLabel false isMedia
@@ -195,7 +195,7 @@ unfoldable pub render : Item → Value → List ℕ
 render (blank w) = onGap [] (replicate w 32)
 render (constant c) = onGap [] (c ∷ [])
 render (number w lo hi may) = onNumber [] (replicate w 32) (put w) (λ n. [])
-render (height w may) = onNumber [] (replicate w 32) (put w) (λ n. 45 ∷ put (w - 1) n)
+render (height w lo hi may) = onNumber [] (replicate w 32) (put w) (λ n. 45 ∷ put (w - 1) n)
 render (angle way) = onNumber [] [] (λ n. put (columns way) (dms n) ++ plus way ∷ []) (λ n. put (columns way) (dms n) ++ minusOf way ∷ [])
 render month = onNumber [] [] (put 6) (λ n. [])
 render media = onLabel [] (λ maker day year session mark. maker ∷ (put 3 day ++ (48 + year) ∷ session ∷ mark))
@@ -210,7 +210,7 @@ unfoldable pub parts : Item → List ℕ
 parts (blank w) = w ∷ []
 parts (constant c) = 1 ∷ []
 parts (number w lo hi may) = w ∷ []
-parts (height w may) = w ∷ []
+parts (height w lo hi may) = w ∷ []
 parts (angle way) = columns way ∷ 1 ∷ []
 parts month = 6 ∷ []
 parts media = 10 ∷ []
@@ -222,7 +222,7 @@ unfoldable pub least : Item → Value
 least (blank w) = gap
 least (constant c) = gap
 least (number w lo hi may) = num (pos lo)
-least (height w may) = num (pos 0)
+least (height w lo hi may) = num (pos 0)
 least (angle way) = num (pos 0)
 least month = num (pos 101)
 least media = label 65 1 0 48 (replicate 4 32)

@@ -1,11 +1,11 @@
--- 01, "Field tables", and 001's tables of *27* *70* *72* as docs/LAYOUT.md takes them: columns 11-80 of each kind of record.
+-- 01, "Field tables", and 001's tables of *27* *70* *72* *91* *92* *93* as docs/LAYOUT.md takes them: columns 11-80 of each kind of record.
 use mathlib.Core.Bool.{true, false}
 use mathlib.Core.List.{List, [], _∷_}
 use Prim.Native.Nat.{ℕ}
 use lib.ListN.{getD}
 use Rattle.rules.specs.Characters.{letter, digit, space, printable, title, name, only, _or_}
 use Rattle.rules.specs.Items.{latitude, longitude, each, orBlank, Item, blank, constant, number, height, angle, month, media, word}
-use Rattle.rules.specs.Fields.{Bond, free, notBefore, goesWith, expected, Field}
+use Rattle.rules.specs.Fields.{Bond, free, notBefore, goesWith, differs, expected, Field}
 use Rattle.rules.specs.Kinds.{kindOf}
 
 -- a field by its first column
@@ -34,15 +34,30 @@ state = word 2 (each letter)
 abbrev pub anyText : ℕ → Item
 anyText w = word w (each printable)
 
--- a height of *86*, and the code beside it
+-- a height of *86*, 01: "-999,999 to 9,999,999", and the code beside it
 abbrev pub metres : Item
-metres = height 7 true
+metres = height 7 999_999 9_999_999 true
 
 abbrev pub letterOrBlank : Item
 letterOrBlank = word 1 (each (letter or space))
 
+-- *91* *92*, 001: a standard deviation in hundredths of a centimetre, 9(7.2), and a correlation in eight decimals, from -.9999999 to .99999999
+abbrev pub deviation : Item
+deviation = number 10 0 999_999_999 false
+
+abbrev pub correlation : Item
+correlation = height 10 99_999_990 99_999_999 false
+
+-- 001: whether the accuracies are scaled, Y or N
+abbrev pub scaled : Item
+scaled = word 1 (each (only 89 or only 78))
+
+-- *93*, 001: 0001..9999 in thousandths
+abbrev pub variance : Item
+variance = number 8 1 9_999 false
+
 -- ---- the records
--- 01, "Records kept": columns 11-80 of the job-code records and of *91* *92* *93* are kept as printable bytes
+-- 01, "Records kept": columns 11-80 of the job-code records are kept as printable bytes
 abbrev pub kept : List Field
 kept = at 11 (anyText 70) ∷ []
 
@@ -70,7 +85,7 @@ comment = at 11 (anyText 70) ∷ []
 abbrev pub measurement : List Field
 measurement =
     tied 11 station expected ∷ at 15 (number 6 0 999_999 false) ∷ at 21 (number 4 0 9_999 false)
-    ∷ at 25 (blank 31) ∷ at 56 (height 5 false) ∷ at 61 (blank 20) ∷ []
+    ∷ at 25 (blank 31) ∷ at 56 (height 5 9_999 99_999 false) ∷ at 61 (blank 20) ∷ []
 
 -- *70*, 001: equipment code, manufacturer, model, serial number
 abbrev pub receiver : List Field
@@ -101,10 +116,27 @@ heights =
     ∷ at 46 metres ∷ tied 53 letterOrBlank (goesWith 46) ∷ at 54 (blank 2)
     ∷ at 56 letterOrBlank ∷ at 57 (anyText 24) ∷ []
 
+-- *91*, 001: a station's standard deviations north and east, their correlation, the standard deviation of its ellipsoid height, a comment
+abbrev pub network : List Field
+network =
+    at 11 station ∷ at 15 (blank 6) ∷ at 21 deviation ∷ at 31 deviation ∷ at 41 correlation ∷ at 51 deviation
+    ∷ at 61 (blank 4) ∷ at 65 scaled ∷ at 66 (anyText 15) ∷ []
+
+-- *92*, 001: the same of two stations, which differ
+abbrev pub local : List Field
+local =
+    at 11 station ∷ at 15 (blank 2) ∷ tied 17 station (differs 11) ∷ at 21 (blank 2)
+    ∷ at 23 deviation ∷ at 33 deviation ∷ at 43 correlation ∷ at 53 deviation
+    ∷ at 63 (blank 4) ∷ at 67 scaled ∷ at 68 (anyText 13) ∷ []
+
+-- *93*, 001: the factors of horizontal and vertical variance, a comment
+abbrev pub factor : List Field
+factor = at 11 variance ∷ at 19 variance ∷ at 27 (anyText 54) ∷ []
+
 -- in the order of the kinds
 unfoldable pub layouts : List (List Field)
 layouts =
-    kept ∷ titled ∷ titled ∷ project ∷ occupation ∷ comment ∷ measurement ∷ receiver ∷ aerial ∷ point ∷ heights ∷ kept ∷ kept ∷ kept ∷ []
+    kept ∷ titled ∷ titled ∷ project ∷ occupation ∷ comment ∷ measurement ∷ receiver ∷ aerial ∷ point ∷ heights ∷ network ∷ local ∷ factor ∷ []
 
 -- columns 11-80 under a code
 unfoldable pub layout : List ℕ → List Field

@@ -1,5 +1,5 @@
 -- 01, "A station number is defined by its *80*, and by one only; each *25* names a defined station, instrument and antenna",
--- and "Memory": the words of the lent table.
+-- 02, T-03, of *91* and *92*: "Each station they name must be defined", and 01, "Memory": the words of the lent table.
 use mathlib.Core.Path.{_≡_}
 use mathlib.Core.Bool.{Bool, true, cond}
 use mathlib.Core.List.{List, [], _∷_, map}
@@ -9,7 +9,7 @@ use Rattle.rules.specs.Tests.{_&_, _≤?_, _=?_, within}
 use Rattle.rules.specs.Members.{_∈_}
 use Rattle.rules.specs.Fields.{Check, valueAt, entriesOf, numOf}
 use Rattle.rules.specs.Records.{Meaning}
-use Rattle.rules.specs.Kinds.{kindOf, *25*, *70*, *72*, *80*}
+use Rattle.rules.specs.Kinds.{kindOf, *25*, *70*, *72*, *80*, *91*, *92*}
 use Rattle.rules.specs.Layouts.{layout}
 
 -- ---- a family of numbers: 01's stations, instruments and antennas
@@ -18,19 +18,33 @@ pub record Family : Type 0 where
   pub base : ℕ  -- the word of number 0
   pub most : ℕ  -- the greatest number; the least is 1
   pub width : ℕ  -- the columns of a number
-  pub named : ℕ  -- the column at which a *25* names one
 
 abbrev pub stations : Family
-stations = record { kind = *80*; base = 0; most = 9_999; width = 4; named = 11 }
+stations = record { kind = *80*; base = 0; most = 9_999; width = 4 }
 
 abbrev pub instruments : Family
-instruments = record { kind = *70*; base = 10_000; most = 999; width = 3; named = 28 }
+instruments = record { kind = *70*; base = 10_000; most = 999; width = 3 }
 
 abbrev pub antennas : Family
-antennas = record { kind = *72*; base = 11_000; most = 999; width = 3; named = 33 }
+antennas = record { kind = *72*; base = 11_000; most = 999; width = 3 }
 
 abbrev pub families : List Family
 families = stations ∷ instruments ∷ antennas ∷ []
+
+-- ---- the records of a kind name, at a column, a number of a family
+pub record Naming : Type 0 where
+  pub by : ℕ  -- their kind
+  pub column : ℕ
+  pub family : Family
+
+abbrev pub names : (by column : ℕ) → Family → Naming
+names k c F = record { by = k; column = c; family = F }
+
+-- 01, *25*, and 02, T-03: *91* and *92*; the lowest column first
+abbrev pub namings : List Naming
+namings =
+    names *25* 11 stations ∷ names *91* 11 stations ∷ names *92* 11 stations ∷ names *92* 17 stations
+    ∷ names *25* 28 instruments ∷ names *25* 33 antennas ∷ []
 
 -- what f says of the first family with p, d where there is none
 unfoldable pub ofFirst : (Family → Bool) → (Family → ℕ) → ℕ → List Family → ℕ
@@ -57,19 +71,19 @@ definerFrom r k n (m ∷ ms) = cond (defines k n m) r (definerFrom (r + 1) k n m
 unfoldable pub definer : ℕ → ℕ → List Meaning → ℕ
 definer k n ms = definerFrom 1 k n ms
 
--- a test that is asked of one kind only
+-- a test that is asked of some records only
 unfoldable pub asked : Bool → Bool → Bool
 asked a b = cond a b true
 
--- 12: a *25* names a number of the family that some record of the whole file defines
-abbrev pub namedCheck : List Meaning → Meaning → Family → Check
-namedCheck file m F = record { test = asked (isA *25* m) (1 ≤? definer (F .kind) (numberAt (F .named) m) file); number = 12; column = F .named }
+-- 12: what a record names, some record of the whole file defines
+abbrev pub namedCheck : List Meaning → Meaning → Naming → Check
+namedCheck file m N = record { test = asked (isA (N .by) m) (1 ≤? definer (N .family .kind) (numberAt (N .column) m) file); number = 12; column = N .column }
 
--- 11: an *80* is the first with its number; 12: a *25* names a defined station, instrument and antenna
+-- 11: an *80* is the first with its number; 12: a *25* names a defined station, instrument and antenna, a *91* and a *92* defined stations
 unfoldable pub refChecks : List Meaning → ℕ → Meaning → List Check
 refChecks file r m =
     record { test = asked (isA *80* m) (definer *80* (numberAt 11 m) file =? r); number = 11; column = 11 }
-    ∷ map (namedCheck file m) families
+    ∷ map (namedCheck file m) namings
 
 -- ---- the list of f i, f (i + 1), ..: n places
 unfoldable pub tabulate : (ℕ → ℕ) → ℕ → ℕ → List ℕ
@@ -118,10 +132,10 @@ blankRecord = record { code = []; values = [] }
 unfoldable pub Defines : List Meaning → ℕ → ℕ → ℕ → Type 0
 Defines ms k n i = (i < length ms) × (kindOf (getD ms i blankRecord .code) ≡ k) × (numberAt 11 (getD ms i blankRecord) ≡ n)
 
--- a record names a number of the family that some record defines
-unfoldable pub Named : List Meaning → Meaning → Family → Type 0
-Named ms m F = (i : ℕ) × Defines ms (F .kind) (numberAt (F .named) m) i
+-- what a record names, some record defines
+unfoldable pub Named : List Meaning → Meaning → Naming → Type 0
+Named ms m N = (i : ℕ) × Defines ms (N .family .kind) (numberAt (N .column) m) i
 
 pub record Referred (ms : List Meaning) : Type 0 where
   pub one-only : (n i j : ℕ) → Defines ms *80* n i → Defines ms *80* n j → i ≡ j
-  pub named : (i : ℕ) → i < length ms → kindOf (getD ms i blankRecord .code) ≡ *25* → (F : Family) → F ∈ families → Named ms (getD ms i blankRecord) F
+  pub named : (N : Naming) → N ∈ namings → (i : ℕ) → i < length ms → kindOf (getD ms i blankRecord .code) ≡ N .by → Named ms (getD ms i blankRecord) N

@@ -1,5 +1,6 @@
 -- The numbers that the code reads from the columns are those of the record's meaning, and the word that it defines is its own.
-use mathlib.Core.Path.{_≡_, sym, _∙_, ap}
+use mathlib.Core.Path.{_≡_, refl, sym, _∙_, ap}
+use mathlib.Core.Logic.{inl}
 use mathlib.Core.Bool.{Bool, true, false, false≢true}
 use mathlib.Core.List.{List, [], _∷_}
 use Prim.Native.Nat.{ℕ, _+_}
@@ -12,10 +13,10 @@ use Rattle.rules.specs.Records.{codeAt, meaning}
 use Rattle.rules.specs.Kinds.{kindOf, *25*}
 use Rattle.rules.specs.Layouts.{kept, layouts, layout}
 use Rattle.rules.specs.Members.{_∈_}
-use Rattle.rules.specs.References.{Family, stations, families, isA, numberAt, slotOf}
+use Rattle.rules.specs.References.{Family, stations, families, Naming, names, namings, isA, numberAt, slotOf}
 use Rattle.rules.specs.Chapter4.{chapter4}
 use Rattle.rules.proofs.Truth.{to≡, cases}
-use Rattle.rules.proofs.ReferenceLaws.{stations-in, first-same}
+use Rattle.rules.proofs.ReferenceLaws.{first-same}
 use Rattle.rules.proofs.TableLaws.{hasNumberAt, number-is, own-field, named-field}
 use Rattle.columns.specs.Types.{natOf}
 use Rattle.reading.specs.Values.{natIn}
@@ -44,19 +45,21 @@ module _ (l : List ℕ) where
   unfolding numberAt meaning layout
   at-kind c k e = rw e
 
-  -- the number that a record of the family's kind defines, and the number that a *25* names
-  module _ (F : Family) (i : F ∈ families) where
-    pub own-number : kindOf (codeAt l) ≡ F .kind → numberAt 11 (meaning chapter4 l) ≡ natIn 11 (F .width) l
-    own-number e = at-kind 11 (F .kind) e ∙ field-number F 11 (getD layouts (F .kind) kept) (own-field F i)
+  -- the number that a record of the family's kind defines, and a number that a record names
+  pub own-number : (F : Family) → F ∈ families → kindOf (codeAt l) ≡ F .kind → numberAt 11 (meaning chapter4 l) ≡ natIn 11 (F .width) l
+  own-number F i e = at-kind 11 (F .kind) e ∙ field-number F 11 (getD layouts (F .kind) kept) (own-field F i)
 
-    pub named-number : kindOf (codeAt l) ≡ *25* → numberAt (F .named) (meaning chapter4 l) ≡ natIn (F .named) (F .width) l
-    named-number e = at-kind (F .named) *25* e ∙ field-number F (F .named) (getD layouts *25* kept) (named-field F i)
+  pub named-number : (N : Naming) → N ∈ namings → kindOf (codeAt l) ≡ N .by → numberAt (N .column) (meaning chapter4 l) ≡ natIn (N .column) (N .family .width) l
+  named-number N i e = at-kind (N .column) (N .by) e ∙ field-number (N .family) (N .column) (getD layouts (N .by) kept) (named-field N i)
 
   -- ---- the number that is kept, and the word
   module _ (k : ℕ) (e : k ≡ kindOf (codeAt l)) where
     pub lead-of-25 : k =? *25* ≡ true → leadIn k l ≡ numberAt 11 (meaning chapter4 l)
     unfolding leadIn leadWidth _=?_
-    lead-of-25 h = let z = to≡ {m = k} {n = *25*} h in rw z (sym (named-number stations stations-in (sym e ∙ z)))
+    lead-of-25 h = let z = to≡ {m = k} {n = *25*} h in rw z (sym (named-number (names *25* 11 stations) occupied (sym e ∙ z)))
+      where
+        occupied : names *25* 11 stations ∈ namings
+        occupied = unfold _∈_ in inl refl
 
     pub lead-of : (F : Family) → F ∈ families → k =? F .kind ≡ true → leadIn k l ≡ numberAt 11 (meaning chapter4 l)
     unfolding leadIn

@@ -11,15 +11,15 @@ use Rattle.rules.specs.Tests.{_&_, _≤?_, _=?_}
 use Rattle.rules.specs.Fields.{Verdict, ok, fault, check, _⨾_, Check, run}
 use Rattle.rules.specs.Records.{Meaning, codeAt, meaning, formedLine, meant}
 use Rattle.rules.specs.Files.{Result, inRecord, lineAt, begun, linesFrom, lines, meanings, refer, formedLines}
-use Rattle.rules.specs.Kinds.{kindOf, *25*, *70*, *72*, *80*}
+use Rattle.rules.specs.Kinds.{kindOf, *25*, *70*, *72*, *80*, *91*, *92*}
 use Rattle.rules.specs.Members.{_∈_}
-use Rattle.rules.specs.References.{Family, stations, families, isA, numberAt, definer, asked, namedCheck, refChecks, words}
+use Rattle.rules.specs.References.{Family, stations, families, Naming, namings, isA, numberAt, definer, asked, namedCheck, refChecks, words}
 use Rattle.rules.specs.Calls.{answer}
 use Rattle.rules.specs.Chapter4.{chapter4}
 use Rattle.rules.proofs.Truth.{both, of≤, of>, to≡, of≡, no≡, of≢, cases, above-0}
 use Rattle.rules.proofs.RecordLaws.{line-meant}
 use Rattle.rules.proofs.FileLaws.{lines-more, lines-none}
-use Rattle.rules.proofs.ReferenceLaws.{stations-in, word-in}
+use Rattle.rules.proofs.ReferenceLaws.{stations-in, family-in, word-in}
 use Rattle.rules.proofs.TableLaws.{own-range, named-range}
 use Rattle.kinds.specs.declared.Judged.{Judged}
 use Rattle.kinds.specs.declared.Checked.{Checked}
@@ -28,7 +28,7 @@ use Rattle.kinds.proofs.ValueLaws.{good-is, bad-is}
 use Rattle.reading.specs.Values.{natIn}
 use Rattle.walk.specs.Words.{slotIn}
 use Rattle.walk.specs.Walking.{refusal}
-use Rattle.walk.specs.References.{firstIn, undefinedIn, wordCheck, namedIn, refIn, Referable, referredOf}
+use Rattle.walk.specs.References.{firstIn, undefinedIn, namedBy, wordCheck, namedIn, refIn, Referable, referredOf}
 use Rattle.walk.proofs.WordLaws.{slot-family}
 use Rattle.walk.proofs.NumberLaws.{own-number, named-number, its-kind}
 
@@ -45,37 +45,69 @@ pub undefined-is : (t : List ℕ) (k n i : ℕ) → i ≡ slotIn k n → (w : �
 unfolding undefinedIn _=?_
 undefined-is t k n i e w z = rw (z, e)
 
+-- the station at column 11, which a *25*, a *91* and a *92* name first
 module _ (t l : List ℕ) (n : ℕ) (p : n ≡ natIn 11 4 l) (a : Bool) (e : a ≡ undefinedIn t *80* n) where
-  pub named-station : a ≡ true → Judged.Bad 12 11 ≡ judgedOf (namedIn t l)
-  unfolding namedIn run check judgedOf _⨾_
-  named-station h = rw (← p, ← e, h)
+  pub occupied-station : a ≡ true → Judged.Bad 12 11 ≡ judgedOf (namedIn t *25* l)
+  unfolding namedIn namedBy run check judgedOf _⨾_ _=?_
+  occupied-station h = rw (← p, ← e, h)
 
-  module _ (h : a ≡ false) (n′ : ℕ) (p′ : n′ ≡ natIn 28 3 l) (a′ : Bool) (e′ : a′ ≡ undefinedIn t *70* n′) where
-    pub named-instrument : a′ ≡ true → Judged.Bad 12 28 ≡ judgedOf (namedIn t l)
-    unfolding namedIn run check judgedOf _⨾_
-    named-instrument h′ = rw (← p, ← e, h, ← p′, ← e′, h′)
+  pub network-bad : a ≡ true → Judged.Bad 12 11 ≡ judgedOf (namedIn t *91* l)
+  unfolding namedIn namedBy run check judgedOf _⨾_ _=?_
+  network-bad h = rw (← p, ← e, h)
 
-    module _ (h′ : a′ ≡ false) (m : ℕ) (pm : m ≡ natIn 33 3 l) (b : Bool) (em : b ≡ undefinedIn t *72* m) where
-      pub named-antenna : b ≡ true → Judged.Bad 12 33 ≡ judgedOf (namedIn t l)
-      unfolding namedIn run check judgedOf _⨾_
-      named-antenna z = rw (← p, ← e, h, ← p′, ← e′, h′, ← pm, ← em, z)
+  pub standpoint-bad : a ≡ true → Judged.Bad 12 11 ≡ judgedOf (namedIn t *92* l)
+  unfolding namedIn namedBy run check judgedOf _⨾_ _=?_
+  standpoint-bad h = rw (← p, ← e, h)
 
-      pub named-good : b ≡ false → Judged.Good ≡ judgedOf (namedIn t l)
-      unfolding namedIn run check judgedOf _⨾_
-      named-good z = rw (← p, ← e, h, ← p′, ← e′, h′, ← pm, ← em, z)
+  module _ (h : a ≡ false) where
+    pub network-good : Judged.Good ≡ judgedOf (namedIn t *91* l)
+    unfolding namedIn namedBy run check judgedOf _⨾_ _=?_
+    network-good = rw (← p, ← e, h)
+
+    module _ (n′ : ℕ) (p′ : n′ ≡ natIn 17 4 l) (a′ : Bool) (e′ : a′ ≡ undefinedIn t *80* n′) where
+      pub forepoint-bad : a′ ≡ true → Judged.Bad 12 17 ≡ judgedOf (namedIn t *92* l)
+      unfolding namedIn namedBy run check judgedOf _⨾_ _=?_
+      forepoint-bad h′ = rw (← p, ← e, h, ← p′, ← e′, h′)
+
+      pub local-good : a′ ≡ false → Judged.Good ≡ judgedOf (namedIn t *92* l)
+      unfolding namedIn namedBy run check judgedOf _⨾_ _=?_
+      local-good h′ = rw (← p, ← e, h, ← p′, ← e′, h′)
+
+    module _ (n′ : ℕ) (p′ : n′ ≡ natIn 28 3 l) (a′ : Bool) (e′ : a′ ≡ undefinedIn t *70* n′) where
+      pub occupied-instrument : a′ ≡ true → Judged.Bad 12 28 ≡ judgedOf (namedIn t *25* l)
+      unfolding namedIn namedBy run check judgedOf _⨾_ _=?_
+      occupied-instrument h′ = rw (← p, ← e, h, ← p′, ← e′, h′)
+
+      module _ (h′ : a′ ≡ false) (m : ℕ) (pm : m ≡ natIn 33 3 l) (b : Bool) (em : b ≡ undefinedIn t *72* m) where
+        pub occupied-antenna : b ≡ true → Judged.Bad 12 33 ≡ judgedOf (namedIn t *25* l)
+        unfolding namedIn namedBy run check judgedOf _⨾_ _=?_
+        occupied-antenna z = rw (← p, ← e, h, ← p′, ← e′, h′, ← pm, ← em, z)
+
+        pub occupied-good : b ≡ false → Judged.Good ≡ judgedOf (namedIn t *25* l)
+        unfolding namedIn namedBy run check judgedOf _⨾_ _=?_
+        occupied-good z = rw (← p, ← e, h, ← p′, ← e′, h′, ← pm, ← em, z)
 
 module _ (t : List ℕ) (r k : ℕ) (l : List ℕ) where
-  pub refs-80 : k ≡ 9 → {v : Judged} → v ≡ judgedOf (firstIn t r l) → v ≡ judgedOf (refIn t r k l)
+  pub refs-80 : k ≡ *80* → {v : Judged} → v ≡ judgedOf (firstIn t r l) → v ≡ judgedOf (refIn t r k l)
   unfolding refIn _=?_
   refs-80 e q = rw e q
 
-  pub refs-25 : k ≡ 4 → {v : Judged} → v ≡ judgedOf (namedIn t l) → v ≡ judgedOf (refIn t r k l)
-  unfolding refIn _=?_
-  refs-25 e q = rw e q
+  refs-named : (j : ℕ) → k ≡ j → j =? *80* ≡ false → {v : Judged} → v ≡ judgedOf (namedIn t j l) → v ≡ judgedOf (refIn t r k l)
+  unfolding refIn
+  refs-named j e d q = rw (e, d) q
 
-  pub refs-none : (k ≡ 9 → ⊥) → (k ≡ 4 → ⊥) → Judged.Good ≡ judgedOf (refIn t r k l)
-  unfolding refIn judgedOf
-  refs-none a b = rw (of≢ a, of≢ b)
+  pub refs-25 : k ≡ *25* → {v : Judged} → v ≡ judgedOf (namedIn t *25* l) → v ≡ judgedOf (refIn t r k l)
+  refs-25 e = refs-named *25* e (unfold _=?_ in refl)
+
+  pub refs-91 : k ≡ *91* → {v : Judged} → v ≡ judgedOf (namedIn t *91* l) → v ≡ judgedOf (refIn t r k l)
+  refs-91 e = refs-named *91* e (unfold _=?_ in refl)
+
+  pub refs-92 : k ≡ *92* → {v : Judged} → v ≡ judgedOf (namedIn t *92* l) → v ≡ judgedOf (refIn t r k l)
+  refs-92 e = refs-named *92* e (unfold _=?_ in refl)
+
+  pub refs-none : (k ≡ *25* → ⊥) → (k ≡ *80* → ⊥) → (k ≡ *91* → ⊥) → (k ≡ *92* → ⊥) → Judged.Good ≡ judgedOf (refIn t r k l)
+  unfolding refIn namedIn namedBy run judgedOf
+  refs-none a b c d = rw (of≢ a, of≢ b, of≢ c, of≢ d)
 
 -- ---- the words tell what the rules ask of the whole file
 not-zero : (n : ℕ) → not (n =? 0) ≡ 1 ≤? n
@@ -86,14 +118,28 @@ unfolding _⨾_
 then-ok ok = refl
 then-ok (fault n c) = refl
 
+run-alone : (b : Bool) (n c : ℕ) (ks : List Check) → run ks ≡ ok → check b n c ≡ run (record { test = b; number = n; column = c } ∷ ks)
+unfolding run
+run-alone b n c ks h = rw h (then-ok (check b n c))
+
 run-past : (b : Bool) (n c : ℕ) (ks : List Check) → b ≡ true → run ks ≡ run (record { test = b; number = n; column = c } ∷ ks)
 unfolding run check _⨾_
 run-past b n c ks h = rw h
 
-run-same : (f g : Family → Check) (Fs : List Family) → ((F : Family) → F ∈ Fs → f F ≡ g F) → run (map f Fs) ≡ run (map g Fs)
-unfolding _∈_ run
-run-same f g [] h = refl
-run-same f g (F ∷ Fs) h = rw (h F (inl refl)) (ap (_⨾_ (check (g F .test) (g F .number) (g F .column))) (run-same f g Fs (λ G i. h G (inr i))))
+run-first : {c d : Check} (cs ds : List Check) → c ≡ d → run cs ≡ run ds → run (c ∷ cs) ≡ run (d ∷ ds)
+unfolding run
+run-first cs ds e h = rw (e, h)
+
+-- tests that are true where the record does not name, and else the same
+run-named : (k : ℕ) (f g : Naming → Check) (Ns : List Naming) → ((N : Naming) → N ∈ Ns → k =? N .by ≡ true → f N ≡ g N) → ((N : Naming) → N ∈ Ns → k =? N .by ≡ false → g N .test ≡ true)
+    → run (map f (namedBy k Ns)) ≡ run (map g Ns)
+unfolding _∈_ namedBy
+run-named k f g [] h p = refl
+run-named k f g (N ∷ Ns) h p =
+    let rest : run (map f (namedBy k Ns)) ≡ run (map g Ns) = run-named k f g Ns (λ M i. h M (inr i)) (λ M i. p M (inr i)) in
+    cases (k =? N .by)
+    (λ e. rw e (run-first (map f (namedBy k Ns)) (map g Ns) (h N (inl refl) e) rest))
+    (λ e. rw e (rest ∙ run-past (g N .test) (g N .number) (g N .column) (map g Ns) (p N (inl refl) e)))
 
 -- for any family, the word of a number tells which record defines it
 word-tells : (ms : List Meaning) (F : Family) → F ∈ families → (n : ℕ) → n ≤ F .most → getD (words ms) (slotIn (F .kind) n) 0 ≡ definer (F .kind) n ms
@@ -103,39 +149,39 @@ module _ (ms : List Meaning) (r : ℕ) (l : List ℕ) (fine : formedLine chapter
   mean : meant chapter4 (meaning chapter4 l) ≡ true
   mean = line-meant chapter4 l fine
 
+  -- what a record names is tested by its words
+  one-told : (N : Naming) → N ∈ namings → k =? N .by ≡ true → wordCheck (words ms) l N ≡ namedCheck ms (meaning chapter4 l) N
+  unfolding undefinedIn asked
+  one-told N i a =
+      let own : isA (N .by) (meaning chapter4 l) ≡ true = its-kind l k e (N .by) ∙ a in
+      let n = numberAt (N .column) (meaning chapter4 l) in
+      rw (own, ← named-number l N i (sym e ∙ to≡ a), word-tells ms (N .family) (family-in N i) n (named-range N i (meaning chapter4 l) mean own .1))
+      (ap (λ (b : Bool). record { test = b; number = 12; column = N .column }) (not-zero (definer (N .family .kind) n ms)))
+
+  not-told : (N : Naming) → N ∈ namings → k =? N .by ≡ false → namedCheck ms (meaning chapter4 l) N .test ≡ true
+  unfolding asked
+  not-told N i a = rw (its-kind l k e (N .by), a)
+
+  named-told : namedIn (words ms) k l ≡ run (map (namedCheck ms (meaning chapter4 l)) namings)
+  unfolding namedIn
+  named-told = run-named k (wordCheck (words ms) l) (namedCheck ms (meaning chapter4 l)) namings one-told not-told
+
+  -- an *80* names nothing
   first-told : k =? *80* ≡ true → firstIn (words ms) r l ≡ run (refChecks ms r (meaning chapter4 l))
-  unfolding firstIn refChecks run asked
+  unfolding firstIn refChecks asked
   first-told a =
       let own : isA *80* (meaning chapter4 l) ≡ true = its-kind l k e *80* ∙ a in
-      let not25 : isA *25* (meaning chapter4 l) ≡ false = its-kind l k e *25* ∙ of≢ (λ y. omega (arith, to≡ a, y)) in
       let n = numberAt 11 (meaning chapter4 l) in
-      rw (own, not25, ← own-number l stations stations-in (sym e ∙ to≡ a), word-tells ms stations stations-in n (own-range stations stations-in (meaning chapter4 l) mean own .1))
-      (unfold check _⨾_ in then-ok (check (definer *80* n ms =? r) 11 11))
-
-  one-told : k =? *25* ≡ true → (F : Family) → F ∈ families → wordCheck (words ms) l F ≡ namedCheck ms (meaning chapter4 l) F
-  unfolding undefinedIn asked
-  one-told a F i =
-      let own : isA *25* (meaning chapter4 l) ≡ true = its-kind l k e *25* ∙ a in
-      let n = numberAt (F .named) (meaning chapter4 l) in
-      rw (own, ← named-number l F i (sym e ∙ to≡ a), word-tells ms F i n (named-range F i (meaning chapter4 l) mean own .1))
-      (ap (λ (b : Bool). record { test = b; number = 12; column = F .named }) (not-zero (definer (F .kind) n ms)))
-
-  named-told : k =? *25* ≡ true → namedIn (words ms) l ≡ run (refChecks ms r (meaning chapter4 l))
-  unfolding namedIn refChecks asked
-  named-told a =
-      let not80 : isA *80* (meaning chapter4 l) ≡ false = its-kind l k e *80* ∙ of≢ (λ y. omega (arith, to≡ a, y)) in
-      let past : asked (isA *80* (meaning chapter4 l)) (definer *80* (numberAt 11 (meaning chapter4 l)) ms =? r) ≡ true = rw not80 in
-      run-same (wordCheck (words ms) l) (namedCheck ms (meaning chapter4 l)) families (one-told a)
-      ∙ run-past _ 11 11 (map (namedCheck ms (meaning chapter4 l)) families) past
-
-  none-told : k =? *80* ≡ false → k =? *25* ≡ false → ok ≡ run (refChecks ms r (meaning chapter4 l))
-  unfolding refChecks run asked check _⨾_
-  none-told a b = rw (its-kind l k e *80*, its-kind l k e *25*, a, b)
+      let none : namedIn (words ms) k l ≡ ok = unfold namedIn namedBy run _=?_ in rw (to≡ {m = k} {n = *80*} a) in
+      let rest : run (map (namedCheck ms (meaning chapter4 l)) namings) ≡ ok = sym named-told ∙ none in
+      rw (← own-number l stations stations-in (sym e ∙ to≡ a), word-tells ms stations stations-in n (own-range stations stations-in (meaning chapter4 l) mean own .1))
+      (rw own (run-alone (definer *80* n ms =? r) 11 11 (map (namedCheck ms (meaning chapter4 l)) namings) rest))
 
   pub refs-told : refIn (words ms) r k l ≡ run (refChecks ms r (meaning chapter4 l))
-  unfolding refIn
+  unfolding refIn refChecks asked
   refs-told =
-      cases (k =? *80*) (λ a. rw a (first-told a)) (λ a. cases (k =? *25*) (λ b. rw (a, b) (named-told b)) (λ b. rw (a, b) (none-told a b)))
+      cases (k =? *80*) (λ a. rw a (first-told a))
+      (λ a. rw a (named-told ∙ run-past _ 11 11 (map (namedCheck ms (meaning chapter4 l)) namings) (rw (its-kind l k e *80*, a))))
 
 -- ---- the loop: what is left to refer from here is what was to refer at the start
 pub record Referring (f : List ℕ) (n i : ℕ) : Type 0 where

@@ -1,14 +1,14 @@
 -- 11 and 12 by the words of the table and the columns of a line.
 use mathlib.Core.Path.{_≡_}
 use mathlib.Core.Bool.{Bool, true, cond, not}
-use mathlib.Core.List.{List, map}
+use mathlib.Core.List.{List, [], _∷_, map}
 use Prim.Native.Nat.{ℕ}
 use lib.ListN.{getD}
 use Rattle.rules.specs.Tests.{_=?_}
-use Rattle.rules.specs.Fields.{Verdict, ok, check, Check, run}
-use Rattle.rules.specs.Kinds.{*25*, *80*}
+use Rattle.rules.specs.Fields.{Verdict, check, Check, run}
+use Rattle.rules.specs.Kinds.{*80*}
 use Rattle.rules.specs.Files.{accept, lines, meanings, refer, formedLines}
-use Rattle.rules.specs.References.{Family, families, words}
+use Rattle.rules.specs.References.{Naming, namings, words}
 use Rattle.rules.specs.Calls.{answer}
 use Rattle.rules.specs.Chapter4.{chapter4}
 use Rattle.kinds.specs.declared.Checked.{Checked}
@@ -24,15 +24,20 @@ firstIn t r l = check (getD t (slotIn *80* (natIn 11 4 l)) 0 =? r) 11 11
 unfoldable pub undefinedIn : List ℕ → ℕ → ℕ → Bool
 undefinedIn t k n = getD t (slotIn k n) 0 =? 0
 
--- 12: the words of what a *25* names are not 0
-abbrev pub wordCheck : List ℕ → List ℕ → Family → Check
-wordCheck t l F = record { test = not (undefinedIn t (F .kind) (natIn (F .named) (F .width) l)); number = 12; column = F .named }
+-- what records of kind k name
+unfoldable pub namedBy : ℕ → List Naming → List Naming
+namedBy k [] = []
+namedBy k (N ∷ Ns) = cond (k =? N .by) (N ∷ namedBy k Ns) (namedBy k Ns)
 
-unfoldable pub namedIn : List ℕ → List ℕ → Verdict
-namedIn t l = run (map (wordCheck t l) families)
+-- 12: the words of what a record names are not 0
+abbrev pub wordCheck : List ℕ → List ℕ → Naming → Check
+wordCheck t l N = record { test = not (undefinedIn t (N .family .kind) (natIn (N .column) (N .family .width) l)); number = 12; column = N .column }
+
+unfoldable pub namedIn : List ℕ → ℕ → List ℕ → Verdict
+namedIn t k l = run (map (wordCheck t l) (namedBy k namings))
 
 unfoldable pub refIn : List ℕ → ℕ → ℕ → List ℕ → Verdict
-refIn t r k l = cond (k =? *80*) (firstIn t r l) (cond (k =? *25*) (namedIn t l) ok)
+refIn t r k l = cond (k =? *80*) (firstIn t r l) (namedIn t k l)
 
 -- a file that the walk accepted, the table that it filled, and its answer
 pub record Referable (f t : List ℕ) (v : Checked) : Type 0 where

@@ -5,12 +5,15 @@ use crate::words::word_at;
 use judging::codes::kind_at;
 use kinds::Checked;
 use kinds::Judged;
+use kinds::Local;
+use kinds::Network;
 use kinds::Occupation;
 use kinds::Point;
 use reading::lines::count_begun;
 use reading::lines::line;
 use reading::values::number_in;
 ghost use mathlib.Core.Path.{_≡_};
+ghost use Rattle.rules.specs.Kinds.{*25*, *91*, *92*};
 ghost use Rattle.kinds.specs.Values.{judgedOf};
 ghost use Rattle.walk.specs.References.{firstIn, undefinedIn, namedIn, refIn, Referable, referredOf};
 
@@ -40,8 +43,8 @@ fn is_undefined(words: &[u32], kind: usize, number: u32) -> bool
 }
 
 // 12: a *25* names a defined station, instrument and antenna.
-fn judge_named(words: &[u32], line: &[u8]) -> Judged
-    ensures { λ v. ⌜ v ≡ judgedOf (namedIn (now (words .entry)) (now (line .entry))) ⌝ }
+fn judge_occupation(words: &[u32], line: &[u8]) -> Judged
+    ensures { λ v. ⌜ v ≡ judgedOf (namedIn (now (words .entry)) *25* (now (line .entry))) ⌝ }
 {
     let station = number_in(line, Occupation::STATION, Occupation::STATION_WIDTH);
     if is_undefined(words, 9, station) {
@@ -58,16 +61,42 @@ fn judge_named(words: &[u32], line: &[u8]) -> Judged
     Judged::Good
 }
 
+// A *91* names a defined station.
+fn judge_network(words: &[u32], line: &[u8]) -> Judged
+    ensures { λ v. ⌜ v ≡ judgedOf (namedIn (now (words .entry)) *91* (now (line .entry))) ⌝ }
+{
+    let station = number_in(line, Network::STATION, Network::STATION_WIDTH);
+    if is_undefined(words, 9, station) {
+        return Judged::Bad(12, Network::STATION);
+    }
+    Judged::Good
+}
+
+// A *92* names two.
+fn judge_local(words: &[u32], line: &[u8]) -> Judged
+    ensures { λ v. ⌜ v ≡ judgedOf (namedIn (now (words .entry)) *92* (now (line .entry))) ⌝ }
+{
+    let standpoint = number_in(line, Local::STANDPOINT, Local::STANDPOINT_WIDTH);
+    if is_undefined(words, 9, standpoint) {
+        return Judged::Bad(12, Local::STANDPOINT);
+    }
+    let forepoint = number_in(line, Local::FOREPOINT, Local::FOREPOINT_WIDTH);
+    if is_undefined(words, 9, forepoint) {
+        return Judged::Bad(12, Local::FOREPOINT);
+    }
+    Judged::Good
+}
+
 fn judge_references(words: &[u32], r: usize, line: &[u8], kind: usize) -> Judged
     ensures { λ v. ⌜ v ≡ judgedOf (refIn (now (words .entry)) r kind (now (line .entry))) ⌝ }
 {
-    if kind == 9 {
-        return judge_first(words, r, line);
+    match kind {
+        4 => judge_occupation(words, line),
+        9 => judge_first(words, r, line),
+        11 => judge_network(words, line),
+        12 => judge_local(words, line),
+        _ => Judged::Good,
     }
-    if kind == 4 {
-        return judge_named(words, line);
-    }
-    Judged::Good
 }
 
 // The first of these faults, or v, which accepts.

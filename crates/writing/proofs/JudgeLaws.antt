@@ -96,3 +96,9 @@ pub chain-append : (us vs : List Verdict) → chain (us ++ vs) ≡ (chain us ⨾
 unfolding chain
 chain-append [] vs = unfold _⨾_ in refl
 chain-append (u ∷ us) vs = rw (chain-append us vs) (sym (⨾-assoc u (chain us) (chain vs)))
+
+-- some of them as one
+pub chain-within : (us vs ws : List Verdict) → chain (us ++ (vs ++ ws)) ≡ chain (us ++ chain vs ∷ ws)
+unfolding chain
+chain-within [] vs ws = chain-append vs ws
+chain-within (u ∷ us) vs ws = rw (chain-within us vs ws)

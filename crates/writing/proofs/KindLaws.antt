@@ -1,14 +1,15 @@
 -- The values of each kind of record as a row of tests: what is blank, constant or free leaves no test. Assumes nothing.
-use mathlib.Core.Path.{_≡_, refl, sym, _∙_}
-use mathlib.Core.Bool.{true, false}
+use mathlib.Core.Path.{_≡_, refl, sym, ap, _∙_}
+use mathlib.Core.Bool.{false, not}
 use mathlib.Core.List.{List, [], _∷_, _++_}
-use Prim.Native.Nat.{ℕ}
-use lib.IntN.{pos}
+use Prim.Native.Nat.{ℕ, _+_}
+use native.Mathlib.Nat.{add-zero}
+use lib.IntN.{ℤ, pos}
 use Rattle.rules.specs.Tests.{_&_, _≤?_, _=?_, within}
 use Rattle.rules.specs.Characters.{isPrintable}
 use Rattle.rules.specs.Items.{Value, num, text, Item, number, height, angle, month, media, word, each, orBlank, latitude, longitude, onGap, fits}
 use Rattle.rules.specs.Fields.{Verdict, check, _⨾_, anything, given, entriesOf, valueAt, numOf, isMissing, sameTruth, meets, agreesWith, agrees, judgeEach, judge}
-use Rattle.rules.specs.Layouts.{station, instrument, antenna, initials, state, project, occupation, measurement, receiver, aerial, point, heights}
+use Rattle.rules.specs.Layouts.{station, instrument, antenna, initials, state, metres, deviation, correlation, variance, project, occupation, measurement, receiver, aerial, point, heights, network, local, factor}
 use Rattle.columns.specs.declared.Set.{Set}
 use Rattle.columns.specs.declared.Height.{Height}
 use Rattle.columns.specs.Types.{setOf, heightValue, mediaValue, fourOf}
@@ -20,9 +21,14 @@ use Rattle.kinds.specs.declared.Instrument.{Instrument}
 use Rattle.kinds.specs.declared.Antenna.{Antenna}
 use Rattle.kinds.specs.declared.Point.{Point}
 use Rattle.kinds.specs.declared.Heights.{Heights}
+use Rattle.kinds.specs.declared.Network.{Network}
+use Rattle.kinds.specs.declared.Local.{Local}
+use Rattle.kinds.specs.declared.Factor.{Factor}
+use Rattle.kinds.specs.Tables.{fieldOf}
 use Rattle.kinds.specs.Values.{twoText, threeText, valuesOf}
+use Rattle.writing.specs.Accuracies.{judgeAccuracy}
 use Rattle.writing.specs.Judging.{heightEntries, judgeOrthometric, judgeOthers}
-use Rattle.writing.proofs.JudgeLaws.{chain, chain-append}
+use Rattle.writing.proofs.JudgeLaws.{chain, chain-append, chain-within}
 
 -- a value of its kind and range
 unfoldable pub form : Item → Value → ℕ → Verdict
@@ -62,7 +68,7 @@ module _ (m : Measurement) where
   unfoldable pub measurementTests : List Verdict
   measurementTests =
       form (number 4 1 9_999 false) (num (pos (m .station))) 11 ∷ form (number 6 0 999_999 false) (num (pos (m .date))) 15
-      ∷ form (number 4 0 9_999 false) (num (pos (m .time))) 21 ∷ form (height 5 false) (num (m .height)) 56 ∷ []
+      ∷ form (number 4 0 9_999 false) (num (pos (m .time))) 21 ∷ form (height 5 9_999 99_999 false) (num (m .height)) 56 ∷ []
 
   pub measurement-chain : judge anything (entriesOf measurement (valuesOf (R.Measurement m) [] [] [])) ≡ chain measurementTests
   unfolding judge judgeEach entriesOf given agrees agreesWith meets check _⨾_ fits onGap valuesOf chain measurementTests form
@@ -103,7 +109,7 @@ module _ (h : Heights) (a b : List ℕ) where
   unfoldable pub orthometricTests : List Verdict
   orthometricTests =
       form (number 4 1 9_999 false) (num (pos (h .station))) 11
-      ∷ form (height 7 true) (heightValue (h .orthometric)) 17
+      ∷ form metres (heightValue (h .orthometric)) 17
       ∷ form (wordOf 1 Set.LetterOrSpace) (text (h .code ∷ [])) 24 ∷ tie (h .orthometric) (h .code) 24
       ∷ form (word 2 (orBlank (setOf Set.Digit))) (text (twoText (h .class))) 25
       ∷ form (wordOf 1 Set.YesNoOrSpace) (text (h .indicator ∷ [])) 27 ∷ tie (h .orthometric) (h .indicator) 27
@@ -112,9 +118,9 @@ module _ (h : Heights) (a b : List ℕ) where
 
   unfoldable pub otherTests : List Verdict
   otherTests =
-      form (height 7 true) (heightValue (h .geoid)) 36
+      form metres (heightValue (h .geoid)) 36
       ∷ form (wordOf 1 Set.LetterOrDigitOrSpace) (text (h .geoidcode ∷ [])) 43 ∷ tie (h .geoid) (h .geoidcode) 43
-      ∷ form (height 7 true) (heightValue (h .ellipsoid)) 46
+      ∷ form metres (heightValue (h .ellipsoid)) 46
       ∷ form (wordOf 1 Set.LetterOrSpace) (text (h .ellipsoidcode ∷ [])) 53 ∷ tie (h .ellipsoid) (h .ellipsoidcode) 53
       ∷ form (wordOf 1 Set.LetterOrSpace) (text (h .ellipsoiddatum ∷ [])) 56
       ∷ form (wordOf 24 Set.Printable) (text b) 57 ∷ []
@@ -133,3 +139,59 @@ module _ (h : Heights) (a b : List ℕ) where
 
   pub heights-judged : judge anything (entriesOf heights (valuesOf (R.Heights h) a b [])) ≡ (judgeOrthometric h a ⨾ judgeOthers h b)
   heights-judged = whole-chain ∙ chain-append orthometricTests otherTests ∙ sym (rw (orthometric-chain, other-chain))
+
+-- what *91* and *92* have in common, from column c on
+module _ (c north east : ℕ) (z : ℤ) (ellipsoid scaled : ℕ) where
+  unfoldable pub accuracyTests : List Verdict
+  accuracyTests =
+      form deviation (num (pos north)) c ∷ form deviation (num (pos east)) (c + 10) ∷ form correlation (num z) (c + 20)
+      ∷ form deviation (num (pos ellipsoid)) (c + 30) ∷ form (wordOf 1 Set.YesNo) (text (scaled ∷ [])) (c + 44) ∷ []
+
+  pub accuracy-chain : judgeAccuracy c north east z ellipsoid scaled ≡ chain accuracyTests
+  unfolding judgeAccuracy judge judgeEach entriesOf given agrees agreesWith check _⨾_ fits onGap fieldOf chain accuracyTests form wordOf setOf
+  accuracy-chain = rw (add-zero c, add-zero (c + 10), add-zero (c + 20), add-zero (c + 30), add-zero (c + 44))
+
+  -- judged as one, after other tests and before the last
+  accuracy-within : (us : List Verdict) (v : Verdict) → chain (us ++ (accuracyTests ++ v ∷ [])) ≡ chain (us ++ judgeAccuracy c north east z ellipsoid scaled ∷ v ∷ [])
+  accuracy-within us v = chain-within us accuracyTests (v ∷ []) ∙ ap (λ u. chain (us ++ u ∷ v ∷ [])) (sym accuracy-chain)
+
+module _ (n : Network) (a : List ℕ) where
+  unfoldable pub networkTests : List Verdict
+  networkTests =
+      form station (num (pos (n .station))) 11 ∷ judgeAccuracy 21 (n .north) (n .east) (n .correlation) (n .ellipsoid) (n .scaled)
+      ∷ form (wordOf 15 Set.Printable) (text a) 66 ∷ []
+
+  network-whole : judge anything (entriesOf network (valuesOf (R.Network n) a [] []))
+      ≡ chain ((form station (num (pos (n .station))) 11 ∷ [])
+      ++ (accuracyTests 21 (n .north) (n .east) (n .correlation) (n .ellipsoid) (n .scaled) ++ form (wordOf 15 Set.Printable) (text a) 66 ∷ []))
+  unfolding judge judgeEach entriesOf given agrees agreesWith check _⨾_ fits onGap valuesOf chain accuracyTests form wordOf setOf
+  network-whole = refl
+
+  pub network-chain : judge anything (entriesOf network (valuesOf (R.Network n) a [] [])) ≡ chain networkTests
+  unfolding networkTests
+  network-chain = network-whole ∙ accuracy-within 21 (n .north) (n .east) (n .correlation) (n .ellipsoid) (n .scaled) (form station (num (pos (n .station))) 11 ∷ []) (form (wordOf 15 Set.Printable) (text a) 66)
+
+module _ (l : Local) (a : List ℕ) where
+  -- the stations, which differ
+  unfoldable pub stationTests : List Verdict
+  stationTests = form station (num (pos (l .standpoint))) 11 ∷ form station (num (pos (l .forepoint))) 17 ∷ check (not (l .standpoint =? l .forepoint)) 10 17 ∷ []
+
+  unfoldable pub localTests : List Verdict
+  localTests = stationTests ++ judgeAccuracy 23 (l .north) (l .east) (l .correlation) (l .ellipsoid) (l .scaled) ∷ form (wordOf 13 Set.Printable) (text a) 68 ∷ []
+
+  local-whole : judge anything (entriesOf local (valuesOf (R.Local l) a [] []))
+      ≡ chain (stationTests ++ (accuracyTests 23 (l .north) (l .east) (l .correlation) (l .ellipsoid) (l .scaled) ++ form (wordOf 13 Set.Printable) (text a) 68 ∷ []))
+  unfolding judge judgeEach entriesOf given agrees agreesWith valueAt numOf check _⨾_ fits onGap _=?_ valuesOf chain stationTests accuracyTests form wordOf setOf
+  local-whole = refl
+
+  pub local-chain : judge anything (entriesOf local (valuesOf (R.Local l) a [] [])) ≡ chain localTests
+  unfolding localTests
+  local-chain = local-whole ∙ accuracy-within 23 (l .north) (l .east) (l .correlation) (l .ellipsoid) (l .scaled) stationTests (form (wordOf 13 Set.Printable) (text a) 68)
+
+module _ (f : Factor) (a : List ℕ) where
+  unfoldable pub factorTests : List Verdict
+  factorTests = form variance (num (pos (f .horizontal))) 11 ∷ form variance (num (pos (f .vertical))) 19 ∷ form (wordOf 54 Set.Printable) (text a) 27 ∷ []
+
+  pub factor-chain : judge anything (entriesOf factor (valuesOf (R.Factor f) a [] [])) ≡ chain factorTests
+  unfolding judge judgeEach entriesOf given agrees agreesWith check _⨾_ fits onGap valuesOf chain factorTests form wordOf setOf
+  factor-chain = refl

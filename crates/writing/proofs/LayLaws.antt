@@ -1,6 +1,6 @@
 -- Fields laid into a line. Assumes nothing.
 use mathlib.Core.Path.{_≡_, refl, sym, ap, _∙_}
-use mathlib.Core.Bool.{true, false, cond}
+use mathlib.Core.Bool.{Bool, true, false, cond}
 use mathlib.Core.List.{List, [], _∷_, _++_, append-assoc, append-nil}
 use Prim.Native.Nat.{ℕ, zero, suc, _+_, _-_, _≤_, _<_}
 use native.Mathlib.Nat.{add-sub-cancel-left}
@@ -36,6 +36,10 @@ room-fits n c w h =
     let r : w ≤ n - (c - 1) = to≤ (both h .1) in
     (p, omega arith)
 
+-- the same of the code's own test
+pub room-of : (n c w : ℕ) {t : Bool} → t ≡ roomy n c w → t ≡ true → (1 ≤ c) × (c - 1 + w ≤ n)
+room-of n c w e h = room-fits n c w (sym e ∙ h)
+
 pub fits-room : (n c w : ℕ) → 1 ≤ c → c ≤ n → c - 1 + w ≤ n → roomy n c w ≡ true
 unfolding roomy
 fits-room n c w p q r = let s : w ≤ n - (c - 1) = omega arith in and (and (of≤ p) (of≤ q)) (of≤ s)
@@ -56,6 +60,14 @@ module _ (c w : ℕ) (l : List ℕ) where
   pub lay-not : (ys : List ℕ) → roomy (length l) c w ≡ false → length ys ≡ w → l ≡ lay c ys l
   unfolding lay
   lay-not ys h e = rw (e, h)
+
+-- what a function of the width alone leaves in a part that is lent where there is room
+module _ (f : ℕ → List ℕ) (wide : (k : ℕ) → length (f k) ≡ k) (c w : ℕ) (l : List ℕ) {t : Bool} (e : t ≡ roomy (length l) c w) where
+  pub lent-put : t ≡ true → {last : List ℕ} → last ≡ f (length (midOf (c - 1) (c - 1 + w - (c - 1)) l)) → putMid (c - 1) (c - 1 + w - (c - 1)) l last ≡ lay c (f w) l
+  lent-put h q = let r = sym e ∙ h in lay-put c w l r (q ∙ ap f (lent-wide c w l r)) (wide w)
+
+  pub lent-not : t ≡ false → l ≡ lay c (f w) l
+  lent-not h = lay-not c w l (f w) (sym e ∙ h) (wide w)
 
 pub written-is : (i : Item) (v : Value) (old : List ℕ) → length old ≡ width i → fits i v ≡ true → written i v old ≡ render i v
 unfolding written

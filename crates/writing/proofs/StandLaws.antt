@@ -72,7 +72,7 @@ abbrev pub keptAsIs : Item → Bool
 keptAsIs (blank w) = true
 keptAsIs (constant c) = true
 keptAsIs (number w lo hi may) = false
-keptAsIs (height w may) = false
+keptAsIs (height w lo hi may) = false
 keptAsIs (angle way) = false
 keptAsIs month = true
 keptAsIs media = true
@@ -83,7 +83,7 @@ unfolding styleOf valueOf render onGap onNumber onText good width shape isBlank
 style-same (blank w) bs t h = rw (← to≡ (both (both h .0) .0)) (same-bytes (λ b. b =? 32) 32 (λ b k. to≡ k) bs (both (both h .0) .1))
 style-same (constant c) bs t h = sym (ap (λ n. replicate n c) (to≡ (both (both h .0) .0))) ∙ same-bytes (λ b. b =? c) c (λ b k. to≡ k) bs (both (both h .0) .1)
 style-same (number w lo hi may) bs t h = absurd (false≢true t)
-style-same (height w may) bs t h = absurd (false≢true t)
+style-same (height w lo hi may) bs t h = absurd (false≢true t)
 style-same (angle way) bs t h = absurd (false≢true t)
 style-same month bs t h = put-val 6 bs (to≡ (both (both h .0) .0)) (both (both h .0) .1)
 style-same media bs t h = unfold styleOf valueOf render onLabel in media-back bs (to≡ (both (both h .0) .0)) (both (both h .0) .1)
@@ -205,12 +205,12 @@ minus-laid (b ∷ ds) f m =
     let v : val 0 (b ∷ ds) ≡ val 0 (map filled ds) = low-val b ds (minus-low b ds m) ∙ sym (filled-val 0 ds) in
     ap (λ l. 45 ∷ l) (sym (ap₂ put (suc-less-one (length ds)) v ∙ put-val (length ds) (map filled ds) (length-map ds filled) d))
 
-module _ (may : Bool) (bs : List ℕ) where
-  height-is : all isBlank bs ≡ false → styleOf (height (length bs) may) bs ≡ onNumber [] (replicate (length bs) 32) (put (length bs)) (λ m. 45 ∷ put (length bs - 1) m) (num (signed (minus bs) (val 0 bs)))
+module _ (lo hi : ℕ) (may : Bool) (bs : List ℕ) where
+  height-is : all isBlank bs ≡ false → styleOf (height (length bs) lo hi may) bs ≡ onNumber [] (replicate (length bs) 32) (put (length bs)) (λ m. 45 ∷ put (length bs - 1) m) (num (signed (minus bs) (val 0 bs)))
   unfolding styleOf valueOf render
   height-is n = rw n
 
-  height-anew : length bs ≤ 16 → heightForm bs ≡ true → all isBlank bs ≡ false → heightAnew bs ≡ styleOf (height (length bs) may) bs
+  height-anew : length bs ≤ 16 → heightForm bs ≡ true → all isBlank bs ≡ false → heightAnew bs ≡ styleOf (height (length bs) lo hi may) bs
   height-anew few f n =
       let e : valueIn bs ≡ val 0 bs = value-is bs few in
       let x : List ℕ = replicate (length bs) 32 in
@@ -223,7 +223,7 @@ module _ (may : Bool) (bs : List ℕ) where
       anew-from bs t
       ∙ sym (height-is n ∙ from-zero x (put (length bs)) (λ k. 45 ∷ put (length bs - 1) k) (minus bs) (val 0 bs) (ap (λ v. minus bs && not (eqb v 0)) (sym e) ∙ t) ∙ filled-put bs f))
 
-  missed : all isBlank bs ≡ true → styleOf (height (length bs) may) bs ≡ bs
+  missed : all isBlank bs ≡ true → styleOf (height (length bs) lo hi may) bs ≡ bs
   unfolding styleOf valueOf render onNumber isBlank
   missed h = rw h (same-bytes (λ b. b =? 32) 32 (λ b k. to≡ k) bs h)
 
@@ -256,8 +256,8 @@ rise-same (b ∷ ds) f h =
     anew-below (b ∷ ds) (ap₂ _&&_ below (rw (t, m) at h)) ∙ ap₂ _∷_ (sym e) (digits-stay ds (d .1)))
     (λ m. absurd (false≢true (rw (t, m) at h))))
 
-module _ (w : ℕ) (bs : List ℕ) (few : w ≤ 16) where
-  pub rise-done : good (height w false) bs ≡ true → heightStyle false bs ≡ styleOf (height w false) bs
+module _ (w lo hi : ℕ) (bs : List ℕ) (few : w ≤ 16) where
+  pub rise-done : good (height w lo hi false) bs ≡ true → heightStyle false bs ≡ styleOf (height w lo hi false) bs
   unfolding settled good width shape fits valueOf onNumber
   rise-done g =
       let e : length bs ≡ w = to≡ (both (both g .0) .0) in
@@ -265,19 +265,19 @@ module _ (w : ℕ) (bs : List ℕ) (few : w ≤ 16) where
       cases (all isBlank bs)
       (λ s. absurd (false≢true (rw s at (both g .1))))
       (λ s.
-      let anew : heightAnew bs ≡ styleOf (height (length bs) false) bs = height-anew false bs (omega arith) f s in
+      let anew : heightAnew bs ≡ styleOf (height (length bs) lo hi false) bs = height-anew lo hi false bs (omega arith) f s in
       rw (← e) (cases (riseStands bs) (λ t. rw t (sym (rise-same bs f t) ∙ anew)) (λ t. rw t anew)))
 
-  pub metres-done : good (height w true) bs ≡ true → heightStyle true bs ≡ styleOf (height w true) bs
+  pub metres-done : good (height w lo hi true) bs ≡ true → heightStyle true bs ≡ styleOf (height w lo hi true) bs
   unfolding settled metresStands good width shape
   metres-done g =
       let e : length bs ≡ w = to≡ (both (both g .0) .0) in
       let f : heightForm bs ≡ true = both (both g .0) .1 in
       rw (← e)
       (cases (all isBlank bs)
-      (λ s. cases (riseStands bs) (λ t. rw t (sym (missed true bs s))) (λ t. rw (t, s) (sym (missed true bs s))))
+      (λ s. cases (riseStands bs) (λ t. rw t (sym (missed lo hi true bs s))) (λ t. rw (t, s) (sym (missed lo hi true bs s))))
       (λ s.
-      let anew : heightAnew bs ≡ styleOf (height (length bs) true) bs = height-anew true bs (omega arith) f s in
+      let anew : heightAnew bs ≡ styleOf (height (length bs) lo hi true) bs = height-anew lo hi true bs (omega arith) f s in
       cases (riseStands bs) (λ t. rw t (sym (rise-same bs f t) ∙ anew)) (λ t. rw (t, s) anew)))
 
 -- ---- angles

@@ -96,7 +96,7 @@ unfoldable narrow : Item → Bool
 narrow (blank w) = true
 narrow (constant c) = true
 narrow (number w lo hi may) = not may
-narrow (height w may) = w ≤? 16
+narrow (height w lo hi may) = w ≤? 16
 narrow (angle way) = true
 narrow month = true
 narrow media = true
@@ -118,8 +118,8 @@ module _ (c k : ℕ) (out : List ℕ) (from : c ≡ k + 1) where
   field-done (constant b) bs n g e p q = unfold width in field-stays (constant b) bs refl g e p q
   field-done (number w lo hi true) bs n g e p q = absurd (false≢true n)
   field-done (number w lo hi false) bs n g e p q = field-changed (map filled) w bs (styleOf (number w lo hi false) bs) e (number-done w lo hi bs g)
-  field-done (height w false) bs n g e p q = field-changed (heightStyle false) w bs (styleOf (height w false) bs) e (rise-done w bs (to≤ n) g)
-  field-done (height w true) bs n g e p q = field-changed (heightStyle true) w bs (styleOf (height w true) bs) e (metres-done w bs (to≤ n) g)
+  field-done (height w lo hi false) bs n g e p q = field-changed (heightStyle false) w bs (styleOf (height w lo hi false) bs) e (rise-done w lo hi bs (to≤ n) g)
+  field-done (height w lo hi true) bs n g e p q = field-changed (heightStyle true) w bs (styleOf (height w lo hi true) bs) e (metres-done w lo hi bs (to≤ n) g)
   field-done (angle way) bs n g e p q = field-changed (angleStyle (columns way) (plus way)) (suc (columns way)) bs (styleOf (angle way) bs) e (angle-done way bs g)
   field-done month bs n g e p q = unfold width in field-stays month bs refl g e p q
   field-done media bs n g e p q = unfold width in field-stays media bs refl g e p q
@@ -173,23 +173,23 @@ rows-narrow = each-kind (λ k. all narrowRow (getD rowLists k []) ≡ true) refl
 
 -- a kind without numbers, heights and angles
 pub rest-stays : (l : List ℕ) (kind : ℕ) → kind < 14 → (kind ≡ 4 → ⊥) → (kind ≡ 6 → ⊥) → (kind ≡ 7 → ⊥) → (kind ≡ 8 → ⊥) → (kind ≡ 9 → ⊥) → (kind ≡ 10 → ⊥)
-    → l ≡ changeRows (getD rowLists kind []) l
+    → (kind ≡ 11 → ⊥) → (kind ≡ 12 → ⊥) → (kind ≡ 13 → ⊥) → l ≡ changeRows (getD rowLists kind []) l
 unfolding changeRows changeField fieldOf
-rest-stays l = each-kind (λ k. (k ≡ 4 → ⊥) → (k ≡ 6 → ⊥) → (k ≡ 7 → ⊥) → (k ≡ 8 → ⊥) → (k ≡ 9 → ⊥) → (k ≡ 10 → ⊥) → l ≡ changeRows (getD rowLists k []) l)
-    (λ a b c d e f. refl)
-    (λ a b c d e f. refl)
-    (λ a b c d e f. refl)
-    (λ a b c d e f. refl)
-    (λ a b c d e f. absurd (a refl))
-    (λ a b c d e f. refl)
-    (λ a b c d e f. absurd (b refl))
-    (λ a b c d e f. absurd (c refl))
-    (λ a b c d e f. absurd (d refl))
-    (λ a b c d e f. absurd (e refl))
-    (λ a b c d e f. absurd (f refl))
-    (λ a b c d e f. refl)
-    (λ a b c d e f. refl)
-    (λ a b c d e f. refl)
+rest-stays l = each-kind (λ k. (k ≡ 4 → ⊥) → (k ≡ 6 → ⊥) → (k ≡ 7 → ⊥) → (k ≡ 8 → ⊥) → (k ≡ 9 → ⊥) → (k ≡ 10 → ⊥) → (k ≡ 11 → ⊥) → (k ≡ 12 → ⊥) → (k ≡ 13 → ⊥) → l ≡ changeRows (getD rowLists k []) l)
+    (λ a b c d e f g h i. refl)
+    (λ a b c d e f g h i. refl)
+    (λ a b c d e f g h i. refl)
+    (λ a b c d e f g h i. refl)
+    (λ a b c d e f g h i. absurd (a refl))
+    (λ a b c d e f g h i. refl)
+    (λ a b c d e f g h i. absurd (b refl))
+    (λ a b c d e f g h i. absurd (c refl))
+    (λ a b c d e f g h i. absurd (d refl))
+    (λ a b c d e f g h i. absurd (e refl))
+    (λ a b c d e f g h i. absurd (f refl))
+    (λ a b c d e f g h i. absurd (g refl))
+    (λ a b c d e f g h i. absurd (h refl))
+    (λ a b c d e f g h i. absurd (i refl))
 
 -- ---- the whole line
 rows-laid : (line : List ℕ) (rs : List Row) (out : List ℕ) → styleRows line rs out ≡ layFields (map fieldOf rs) (values (map fieldOf rs) line) out

@@ -45,7 +45,7 @@ valueIn bs = cond (length bs ≤? 16) (val 0 bs) 0
 unfoldable pub filled : ℕ → ℕ
 filled b = cond (48 ≤? b) b 48
 
--- 01, "Signed height": in house style stand digits from the first column on, and a minus in the first column of what is not zero
+-- 01, "Signed height", 02, T-03, "a signed field by 01's height rule at its own width": in house style stand digits from the first column on, and a minus in the first column of what is not zero
 unfoldable pub riseStands : List ℕ → Bool
 riseStands bs = cond (48 ≤? getD bs 0 0) true (cond (getD bs 0 0 =? 45) (not (eqb (valueIn bs) 0)) false)
 
@@ -81,7 +81,7 @@ unfoldable pub changeField : Item → ℕ → List ℕ → List ℕ
 changeField (blank w) c l = l
 changeField (constant b) c l = l
 changeField (number w lo hi may) c l = changed (map filled) c w l
-changeField (height w may) c l = changed (heightStyle may) c w l
+changeField (height w lo hi may) c l = changed (heightStyle may) c w l
 changeField (angle way) c l = changed (angleStyle (columns way) (plus way)) c (suc (columns way)) l
 changeField month c l = l
 changeField media c l = l

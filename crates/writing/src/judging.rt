@@ -7,19 +7,21 @@ use columns::Set;
 use columns::Way;
 use columns::angles::angle_fits;
 use columns::heights::height_fits;
+use columns::heights::signed_fits;
 use columns::labels::media_fits;
 use columns::numbers::count_fits;
 use columns::numbers::month_fits;
+use columns::numbers::number_fits;
 use columns::sets::good_word;
 use columns::sets::good_word_or_blank;
 use kinds::Judged;
 use kinds::Three;
 use kinds::Two;
 ghost use mathlib.Core.Path.{_≡_};
-ghost use mathlib.Core.Bool.{false};
+ghost use mathlib.Core.Bool.{false, not};
 ghost use mathlib.Core.List.{_∷_, []};
 ghost use lib.IntN.{pos};
-ghost use Rattle.rules.specs.Tests.{_≤?_};
+ghost use Rattle.rules.specs.Tests.{_≤?_, _=?_};
 ghost use Rattle.rules.specs.Items.{fits, number, height, angle, month, media, word, each, orBlank, num, text};
 ghost use Rattle.rules.specs.Fields.{check, sameTruth, isMissing};
 ghost use Rattle.columns.specs.Types.{wayOf, setOf, heightValue, mediaValue, fourOf};
@@ -47,16 +49,38 @@ pub(crate) fn judge_count(j: Judged, n: u32, w: usize, lo: u32, hi: u32, column:
     judge_test(j, count_fits(Count::Is(n), w, lo, hi, false), 9, column)
 }
 
+// The same where 32 bits do not hold what the columns do.
+pub(crate) fn judge_long(j: Judged, n: u64, w: usize, lo: u32, hi: u32, column: usize) -> Judged
+    ensures { λ r. ⌜ r ≡ afterOf j (check (fits (number w lo hi false) (num (pos n))) 9 column) ⌝ }
+{
+    judge_test(j, number_fits(n, w, lo, hi), 9, column)
+}
+
 pub(crate) fn judge_month(j: Judged, n: u32, column: usize) -> Judged
     ensures { λ r. ⌜ r ≡ afterOf j (check (fits month (num (pos n))) 9 column) ⌝ }
 {
     judge_test(j, month_fits(n), 9, column)
 }
 
-pub(crate) fn judge_height(j: Judged, h: Height, w: usize, may: bool, column: usize) -> Judged
-    ensures { λ r. ⌜ r ≡ afterOf j (check (fits (height w may) (heightValue h)) 9 column) ⌝ }
+// From -lo to hi.
+pub(crate) fn judge_height(
+    j: Judged,
+    h: Height,
+    w: usize,
+    lo: u32,
+    hi: u32,
+    may: bool,
+    column: usize,
+) -> Judged
+    ensures { λ r. ⌜ r ≡ afterOf j (check (fits (height w lo hi may) (heightValue h)) 9 column) ⌝ }
 {
-    judge_test(j, height_fits(h, w, may), 9, column)
+    judge_test(j, height_fits(h, w, lo, hi, may), 9, column)
+}
+
+pub(crate) fn judge_signed(j: Judged, z: i64, w: usize, lo: u32, hi: u32, column: usize) -> Judged
+    ensures { λ r. ⌜ r ≡ afterOf j (check (fits (height w lo hi false) (num z)) 9 column) ⌝ }
+{
+    judge_test(j, signed_fits(z, w, lo, hi), 9, column)
 }
 
 pub(crate) fn judge_angle(j: Judged, z: i64, way: Way, column: usize) -> Judged
@@ -145,4 +169,20 @@ pub(crate) fn judge_later(j: Judged, began: u32, ended: u32, column: usize) -> J
 {
     let formed = judge_month(j, ended, column);
     judge_test(formed, began <= ended, 10, column)
+}
+
+// A number that is another than an earlier one.
+pub(crate) fn judge_other(
+    j: Judged,
+    earlier: u32,
+    n: u32,
+    w: usize,
+    lo: u32,
+    hi: u32,
+    column: usize,
+) -> Judged
+    ensures { λ r. ⌜ r ≡ afterOf (afterOf j (check (fits (number w lo hi false) (num (pos n))) 9 column)) (check (not (earlier =? n)) 10 column) ⌝ }
+{
+    let formed = judge_count(j, n, w, lo, hi, column);
+    judge_test(formed, earlier != n, 10, column)
 }

@@ -6,8 +6,10 @@ use columns::Media;
 use columns::Way;
 use columns::angles::put_angle;
 use columns::heights::put_height;
+use columns::heights::put_signed;
 use columns::labels::put_media;
 use columns::numbers::put_count;
+use columns::writers::put_digits;
 use columns::writers::put_text;
 use kinds::Three;
 use kinds::Two;
@@ -43,6 +45,15 @@ pub(crate) fn lay_count(line: &mut [u8], column: usize, w: usize, c: Count)
     }
 }
 
+pub(crate) fn lay_long(line: &mut [u8], column: usize, w: usize, n: u64)
+    ensures { λ _. ⌜ now (line .exit) ≡ lay column (put w n) (now (line .entry)) ⌝ }
+{
+    if has_room(line.len(), column, w) {
+        let at = column - 1;
+        put_digits(&mut line[at..at + w], n);
+    }
+}
+
 pub(crate) fn lay_number(line: &mut [u8], column: usize, w: usize, n: u32)
     ensures { λ _. ⌜ now (line .exit) ≡ lay column (put w n) (now (line .entry)) ⌝ }
 {
@@ -53,6 +64,15 @@ pub(crate) fn lay_blank(line: &mut [u8], column: usize, w: usize)
     ensures { λ _. ⌜ now (line .exit) ≡ lay column (replicate w 32) (now (line .entry)) ⌝ }
 {
     lay_count(line, column, w, Count::Missing);
+}
+
+pub(crate) fn lay_signed(line: &mut [u8], column: usize, w: usize, z: i64)
+    ensures { λ _. ⌜ now (line .exit) ≡ lay column (heightColumns w (Height.Mm z)) (now (line .entry)) ⌝ }
+{
+    if has_room(line.len(), column, w) {
+        let at = column - 1;
+        put_signed(&mut line[at..at + w], z);
+    }
 }
 
 pub(crate) fn lay_height(line: &mut [u8], column: usize, w: usize, h: Height)

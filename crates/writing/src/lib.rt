@@ -6,6 +6,7 @@ use kinds::Record;
 use kinds::Sequence;
 use kinds::Written;
 
+mod accuracies;
 mod judging;
 mod laying;
 mod lines;

@@ -1,4 +1,5 @@
 // The fields of each kind of record, laid into a line from the left, blanks included: nothing of what the line held is left.
+use crate::accuracies::lay_accuracy;
 use crate::laying::lay_angle;
 use crate::laying::lay_blank;
 use crate::laying::lay_count;
@@ -37,7 +38,7 @@ ghost use lib.ListN.{length, take, drop};
 ghost use Rattle.rules.specs.Items.{fits, angle, latitude, longitude, media, num};
 ghost use Rattle.rules.specs.Fields.{isOk, entriesOf, formed};
 ghost use Rattle.rules.specs.Records.{judgeGiven, lineOf};
-ghost use Rattle.rules.specs.Layouts.{project, occupation, measurement, receiver, aerial, point, heights};
+ghost use Rattle.rules.specs.Layouts.{project, occupation, measurement, receiver, aerial, point, heights, network, local, factor};
 ghost use Rattle.rules.specs.Chapter4.{chapter4};
 ghost use Rattle.columns.specs.Types.{mediaValue, fourOf};
 ghost use Rattle.kinds.specs.Values.{sequenceValue, kindNumber, codeOf, meaningOf, valuesOf};
@@ -219,6 +220,60 @@ fn lay_heights(line: &mut [u8], h: Heights, a: &[u8], b: &[u8])
     lay_other_heights(line, h, b);
 }
 
+fn lay_network(line: &mut [u8], n: Network, a: &[u8])
+    ensures { λ _. ⌜ now (line .exit) ≡ layFields network (valuesOf (R.Network n) (now (a .entry)) [] []) (now (line .entry)) ⌝ }
+{
+    lay_number(line, Network::STATION, Network::STATION_WIDTH, n.station);
+    lay_blank(line, Network::SPACER, Network::SPACER_WIDTH);
+    lay_accuracy(
+        line,
+        n.north,
+        n.east,
+        n.correlation,
+        n.ellipsoid,
+        n.scaled,
+        Network::NORTH,
+    );
+    lay_text(line, Network::COMMENT, a);
+}
+
+fn lay_local(line: &mut [u8], l: Local, a: &[u8])
+    ensures { λ _. ⌜ now (line .exit) ≡ layFields local (valuesOf (R.Local l) (now (a .entry)) [] []) (now (line .entry)) ⌝ }
+{
+    lay_number(
+        line,
+        Local::STANDPOINT,
+        Local::STANDPOINT_WIDTH,
+        l.standpoint,
+    );
+    lay_blank(line, Local::SPACER, Local::SPACER_WIDTH);
+    lay_number(line, Local::FOREPOINT, Local::FOREPOINT_WIDTH, l.forepoint);
+    lay_blank(line, Local::SECOND_SPACER, Local::SECOND_SPACER_WIDTH);
+    lay_accuracy(
+        line,
+        l.north,
+        l.east,
+        l.correlation,
+        l.ellipsoid,
+        l.scaled,
+        Local::NORTH,
+    );
+    lay_text(line, Local::COMMENT, a);
+}
+
+fn lay_factor(line: &mut [u8], f: Factor, a: &[u8])
+    ensures { λ _. ⌜ now (line .exit) ≡ layFields factor (valuesOf (R.Factor f) (now (a .entry)) [] []) (now (line .entry)) ⌝ }
+{
+    lay_number(
+        line,
+        Factor::HORIZONTAL,
+        Factor::HORIZONTAL_WIDTH,
+        f.horizontal,
+    );
+    lay_number(line, Factor::VERTICAL, Factor::VERTICAL_WIDTH, f.vertical);
+    lay_text(line, Factor::COMMENT, a);
+}
+
 // Columns 11-80.
 fn lay_values(line: &mut [u8], what: Record, a: &[u8], b: &[u8], c: &[u8])
     requires { ⌜ formed (entriesOf (layoutOf (kindNumber what)) (valuesOf what (now a) (now b) (now c))) ≡ true ⌝ }
@@ -236,9 +291,9 @@ fn lay_values(line: &mut [u8], what: Record, a: &[u8], b: &[u8], c: &[u8])
         Record::Antenna(n) => lay_antenna(line, n, a, b),
         Record::Point(p) => lay_point(line, p, a),
         Record::Heights(h) => lay_heights(line, h, a, b),
-        Record::Network(_) => lay_text(line, Network::TEXT, a),
-        Record::Local(_) => lay_text(line, Local::TEXT, a),
-        Record::Factor(_) => lay_text(line, Factor::TEXT, a),
+        Record::Network(n) => lay_network(line, n, a),
+        Record::Local(l) => lay_local(line, l, a),
+        Record::Factor(f) => lay_factor(line, f, a),
     }
 }
 

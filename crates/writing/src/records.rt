@@ -1,4 +1,5 @@
 // The values of each kind of record, judged from the left.
+use crate::accuracies::judge_accuracy;
 use crate::judging::judge_angle;
 use crate::judging::judge_count;
 use crate::judging::judge_four;
@@ -7,6 +8,7 @@ use crate::judging::judge_later;
 use crate::judging::judge_media;
 use crate::judging::judge_month;
 use crate::judging::judge_one;
+use crate::judging::judge_other;
 use crate::judging::judge_pair;
 use crate::judging::judge_printable;
 use crate::judging::judge_test;
@@ -37,12 +39,14 @@ use kinds::Record;
 use kinds::Sequence;
 use kinds::Title;
 ghost use mathlib.Core.Path.{_≡_};
+ghost use mathlib.Core.Bool.{true};
 ghost use mathlib.Core.List.{[]};
-ghost use Rattle.rules.specs.Fields.{anything, entriesOf, judge};
+ghost use Rattle.rules.specs.Items.{fits, height};
+ghost use Rattle.rules.specs.Fields.{anything, check, entriesOf, judge};
 ghost use Rattle.rules.specs.Records.{judgeGiven};
-ghost use Rattle.rules.specs.Layouts.{project, occupation, measurement, receiver, aerial, point, heights};
+ghost use Rattle.rules.specs.Layouts.{project, occupation, measurement, receiver, aerial, point, heights, network, local, factor};
 ghost use Rattle.rules.specs.Chapter4.{chapter4};
-ghost use Rattle.columns.specs.Types.{countValue};
+ghost use Rattle.columns.specs.Types.{countValue, heightValue};
 ghost use Rattle.kinds.specs.Values.{sequenceValue, kindNumber, meaningOf, valuesOf, judgedOf};
 ghost use Rattle.kinds.specs.declared.Record.the-variants as R;
 ghost use Rattle.writing.specs.Judging.{afterOf, judgeRecord, judgeOrthometric, judgeOthers};
@@ -127,6 +131,8 @@ fn judge_measurement(j: Judged, m: Measurement) -> Judged
         j,
         Height::Mm(m.height),
         Measurement::HEIGHT_WIDTH,
+        9_999,
+        99_999,
         false,
         Measurement::HEIGHT,
     )
@@ -187,6 +193,13 @@ fn judge_point(j: Judged, p: Point, a: &[u8]) -> Judged
     judge_two(j, p.state, Set::Letter, Point::STATE)
 }
 
+// A height of *86*.
+fn judge_metres(j: Judged, h: Height, w: usize, column: usize) -> Judged
+    ensures { λ r. ⌜ r ≡ afterOf j (check (fits (height w 999_999 9_999_999 true) (heightValue h)) 9 column) ⌝ }
+{
+    judge_height(j, h, w, 999_999, 9_999_999, true, column)
+}
+
 // Columns 11-35 of a record of heights. The code and the indicator go with the orthometric height.
 fn judge_orthometric(j: Judged, h: Heights, a: &[u8]) -> Judged
     ensures { λ r. ⌜ r ≡ afterOf j (judgeOrthometric h (now (a .entry))) ⌝ }
@@ -200,13 +213,7 @@ fn judge_orthometric(j: Judged, h: Heights, a: &[u8]) -> Judged
         9999,
         Heights::STATION,
     );
-    let j = judge_height(
-        j,
-        ortho,
-        Heights::ORTHOMETRIC_WIDTH,
-        true,
-        Heights::ORTHOMETRIC,
-    );
+    let j = judge_metres(j, ortho, Heights::ORTHOMETRIC_WIDTH, Heights::ORTHOMETRIC);
     let j = judge_tied(j, ortho, h.code, Set::LetterOrSpace, Heights::CODE);
     let j = judge_pair(j, h.class, Set::Digit, Heights::CLASS);
     let j = judge_tied(j, ortho, h.indicator, Set::YesNoOrSpace, Heights::INDICATOR);
@@ -220,7 +227,7 @@ fn judge_other_heights(j: Judged, h: Heights, b: &[u8]) -> Judged
 {
     let geoid = h.geoid;
     let height = h.ellipsoid;
-    let j = judge_height(j, geoid, Heights::GEOID_WIDTH, true, Heights::GEOID);
+    let j = judge_metres(j, geoid, Heights::GEOID_WIDTH, Heights::GEOID);
     let j = judge_tied(
         j,
         geoid,
@@ -228,13 +235,7 @@ fn judge_other_heights(j: Judged, h: Heights, b: &[u8]) -> Judged
         Set::LetterOrDigitOrSpace,
         Heights::GEOID_CODE,
     );
-    let j = judge_height(
-        j,
-        height,
-        Heights::ELLIPSOID_WIDTH,
-        true,
-        Heights::ELLIPSOID,
-    );
+    let j = judge_metres(j, height, Heights::ELLIPSOID_WIDTH, Heights::ELLIPSOID);
     let j = judge_tied(
         j,
         height,
@@ -256,6 +257,84 @@ fn judge_heights(j: Judged, h: Heights, a: &[u8], b: &[u8]) -> Judged
 {
     let j = judge_orthometric(j, h, a);
     judge_other_heights(j, h, b)
+}
+
+fn judge_network(j: Judged, n: Network, a: &[u8]) -> Judged
+    ensures { λ r. ⌜ r ≡ afterOf j (judge anything (entriesOf network (valuesOf (R.Network n) (now (a .entry)) [] []))) ⌝ }
+{
+    let j = judge_count(
+        j,
+        n.station,
+        Network::STATION_WIDTH,
+        1,
+        9999,
+        Network::STATION,
+    );
+    let j = judge_accuracy(
+        j,
+        n.north,
+        n.east,
+        n.correlation,
+        n.ellipsoid,
+        n.scaled,
+        Network::NORTH,
+    );
+    judge_printable(j, a, Network::COMMENT_WIDTH, Network::COMMENT)
+}
+
+// No station has an accuracy against itself.
+fn judge_local(j: Judged, l: Local, a: &[u8]) -> Judged
+    ensures { λ r. ⌜ r ≡ afterOf j (judge anything (entriesOf local (valuesOf (R.Local l) (now (a .entry)) [] []))) ⌝ }
+{
+    let j = judge_count(
+        j,
+        l.standpoint,
+        Local::STANDPOINT_WIDTH,
+        1,
+        9999,
+        Local::STANDPOINT,
+    );
+    let j = judge_other(
+        j,
+        l.standpoint,
+        l.forepoint,
+        Local::FOREPOINT_WIDTH,
+        1,
+        9999,
+        Local::FOREPOINT,
+    );
+    let j = judge_accuracy(
+        j,
+        l.north,
+        l.east,
+        l.correlation,
+        l.ellipsoid,
+        l.scaled,
+        Local::NORTH,
+    );
+    judge_printable(j, a, Local::COMMENT_WIDTH, Local::COMMENT)
+}
+
+fn judge_factor(j: Judged, f: Factor, a: &[u8]) -> Judged
+    ensures { λ r. ⌜ r ≡ afterOf j (judge anything (entriesOf factor (valuesOf (R.Factor f) (now (a .entry)) [] []))) ⌝ }
+{
+    let j = judge_count(
+        j,
+        f.horizontal,
+        Factor::HORIZONTAL_WIDTH,
+        1,
+        9999,
+        Factor::HORIZONTAL,
+    );
+    let j = judge_count(
+        j,
+        f.vertical,
+        Factor::VERTICAL_WIDTH,
+        1,
+        9999,
+        Factor::VERTICAL,
+    );
+    judge_printable(j, a, Factor::COMMENT_WIDTH, Factor::COMMENT)
 }
 
 // The code, then the text.
@@ -294,9 +373,9 @@ fn judge_record(j: Judged, what: Record, a: &[u8], b: &[u8], c: &[u8]) -> Judged
         Record::Antenna(n) => judge_antenna(j, n, a, b),
         Record::Point(p) => judge_point(j, p, a),
         Record::Heights(h) => judge_heights(j, h, a, b),
-        Record::Network(_) => judge_printable(j, a, Network::TEXT_WIDTH, Network::TEXT),
-        Record::Local(_) => judge_printable(j, a, Local::TEXT_WIDTH, Local::TEXT),
-        Record::Factor(_) => judge_printable(j, a, Factor::TEXT_WIDTH, Factor::TEXT),
+        Record::Network(n) => judge_network(j, n, a),
+        Record::Local(l) => judge_local(j, l, a),
+        Record::Factor(f) => judge_factor(j, f, a),
     }
 }
 

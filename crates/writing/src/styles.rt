@@ -1,5 +1,6 @@
 // The record of a good line in house style: the line is copied once, and in the copy, in place, what is not in house style yet is put right.
-// A height or an angle that stands already costs a test and nothing else.
+// A signed number or an angle that stands already costs a test and nothing else.
+use crate::accuracies::style_accuracy;
 use crate::laying::lay_number;
 use crate::laying::lay_one;
 use columns::heights::has_minus;
@@ -9,9 +10,12 @@ use columns::parts::middle;
 use columns::sets::all_blank;
 use columns::writers::put_text;
 use kinds::Antenna;
+use kinds::Factor;
 use kinds::Heights;
 use kinds::Instrument;
+use kinds::Local;
 use kinds::Measurement;
+use kinds::Network;
 use kinds::Occupation;
 use kinds::Point;
 use kinds::Sequence;
@@ -28,7 +32,7 @@ ghost use Rattle.rules.specs.Chapter4.{chapter4};
 ghost use Rattle.kinds.specs.Tables.{rowLists};
 ghost use Rattle.writing.specs.Styling.{filled, riseStands, metresStands, heightAnew, heightStyle, sided, angleStands, angleStyle, changed, changeRows};
 
-// What stands before the digits of a number or a height is a zero in house style.
+// What stands before the digits of a number, signed or not, is a zero in house style.
 fn zero_before_digits(b: u8) -> u8
     ensures { λ r. ⌜ r ≡ filled b ⌝ }
 {
@@ -50,7 +54,7 @@ fn fill(part: &mut [u8])
     }
 }
 
-// A good height that begins with a digit is in house style, and one that begins with a minus unless it is zero.
+// A good signed number that begins with a digit is in house style, and one that begins with a minus unless it is zero.
 fn rise_stands(part: &[u8]) -> bool
     ensures { λ r. ⌜ r ≡ riseStands (now (part .entry)) ⌝ }
 {
@@ -113,7 +117,7 @@ fn put_letter(part: &mut [u8], n: usize, letter: u8)
 }
 
 // The columns from `first` on of a line of 81.
-fn style_number(line: &mut [u8], first: usize, w: usize)
+pub(crate) fn style_number(line: &mut [u8], first: usize, w: usize)
     requires { ⌜ (length (now line) ≡ 81) × (1 ≤ first) × (first + w ≤ 81) ⌝ }
     ensures { λ _. ⌜ now (line .exit) ≡ changed (map filled) first w (now (line .entry)) ⌝ }
 {
@@ -122,8 +126,8 @@ fn style_number(line: &mut [u8], first: usize, w: usize)
     fill(&mut line[at..end]);
 }
 
-// A height that may not be missing has a test of its own: it is the shorter, and the heights of the most records are of this sort.
-fn style_rise(line: &mut [u8], first: usize, w: usize)
+// A signed number that may not be missing has a test of its own: it is the shorter, and those of the most records are of this sort.
+pub(crate) fn style_rise(line: &mut [u8], first: usize, w: usize)
     requires { ⌜ (length (now line) ≡ 81) × (1 ≤ first) × (first + w ≤ 81) × (1 ≤ w) ⌝ }
     ensures { λ _. ⌜ now (line .exit) ≡ changed (heightStyle false) first w (now (line .entry)) ⌝ }
 {
@@ -213,6 +217,31 @@ fn style_heights(line: &mut [u8])
     style_metres(line, Heights::ELLIPSOID, Heights::ELLIPSOID_WIDTH);
 }
 
+fn style_network(line: &mut [u8])
+    requires { ⌜ length (now line) ≡ 81 ⌝ }
+    ensures { λ _. ⌜ now (line .exit) ≡ changeRows (getD rowLists 11 []) (now (line .entry)) ⌝ }
+{
+    style_number(line, Network::STATION, Network::STATION_WIDTH);
+    style_accuracy(line, Network::NORTH);
+}
+
+fn style_local(line: &mut [u8])
+    requires { ⌜ length (now line) ≡ 81 ⌝ }
+    ensures { λ _. ⌜ now (line .exit) ≡ changeRows (getD rowLists 12 []) (now (line .entry)) ⌝ }
+{
+    style_number(line, Local::STANDPOINT, Local::STANDPOINT_WIDTH);
+    style_number(line, Local::FOREPOINT, Local::FOREPOINT_WIDTH);
+    style_accuracy(line, Local::NORTH);
+}
+
+fn style_factor(line: &mut [u8])
+    requires { ⌜ length (now line) ≡ 81 ⌝ }
+    ensures { λ _. ⌜ now (line .exit) ≡ changeRows (getD rowLists 13 []) (now (line .entry)) ⌝ }
+{
+    style_number(line, Factor::HORIZONTAL, Factor::HORIZONTAL_WIDTH);
+    style_number(line, Factor::VERTICAL, Factor::VERTICAL_WIDTH);
+}
+
 // Columns 11-80. The other kinds have nothing that could be in another style.
 fn style_fields(line: &mut [u8], kind: usize)
     requires { ⌜ (length (now line) ≡ 81) × (kind < 14) ⌝ }
@@ -225,6 +254,9 @@ fn style_fields(line: &mut [u8], kind: usize)
         8 => style_antenna(line),
         9 => style_point(line),
         10 => style_heights(line),
+        11 => style_network(line),
+        12 => style_local(line),
+        13 => style_factor(line),
         _ => {}
     }
 }

@@ -51,20 +51,23 @@ const TABLES: [Table; 2] = [
 
 /// All are accepted. Where nothing is said the dress is mixed: numbers padded
 /// in every way, and so on.
-const ACCEPTED: [(&str, Make); 13] = [
+const ACCEPTED: [(&str, Make); 16] = [
     ("mixed", || accepted(1, MOST)),
     ("mixed, another", || accepted(2, MOST)),
     ("mixed, house", || house(accepted(1, MOST))),
     ("comments", || accepted_mostly(3, Mostly::Comments, MOST)),
     ("small", || accepted(4, 27)),
     ("*26*", || of_kind(Mostly::Comments)),
-    ("*91*", || of_kind(Mostly::Accuracies)),
     ("*25* *27*", || of_kind(Mostly::Groups)),
     ("*25* *27*, house", || house(of_kind(Mostly::Groups))),
     ("*80* *86*", || of_kind(Mostly::Points)),
     ("*80* *86*, house", || house(of_kind(Mostly::Points))),
     ("*70* *72*", || of_kind(Mostly::Equipment)),
     ("*70* *72*, house", || house(of_kind(Mostly::Equipment))),
+    ("*91*", || of_kind(Mostly::Network)),
+    ("*91*, house", || house(of_kind(Mostly::Network))),
+    ("*92*", || of_kind(Mostly::Local)),
+    ("*92*, house", || house(of_kind(Mostly::Local))),
 ];
 
 /// The mixed file as it stands and as editors leave it.

@@ -66,7 +66,7 @@ pub fn is_blank(columns: &[u8]) -> bool {
 }
 
 /// Blanks, then digits up to the last column. All blank is missing.
-pub fn number(columns: &[u8]) -> Result<Option<u32>, Malformed> {
+pub fn number(columns: &[u8]) -> Result<Option<i64>, Malformed> {
     let digits = after_blanks(columns);
     if digits.is_empty() {
         return Ok(None);
@@ -76,14 +76,11 @@ pub fn number(columns: &[u8]) -> Result<Option<u32>, Malformed> {
 
 /// Blanks, perhaps a minus, then digits up to the last column. All blank is
 /// missing, which is not the same as 0.
-pub fn height(columns: &[u8]) -> Result<Option<i32>, Malformed> {
+pub fn signed(columns: &[u8]) -> Result<Option<i64>, Malformed> {
     let written = after_blanks(columns);
-    if written.is_empty() {
-        return Ok(None);
-    }
     match written.strip_prefix(b"-") {
-        Some(digits) => all_digits(digits).map(|value| Some(-(value as i32))),
-        None => all_digits(written).map(|value| Some(value as i32)),
+        Some(digits) => all_digits(digits).map(|value| Some(-value)),
+        None => number(written),
     }
 }
 
@@ -98,10 +95,7 @@ pub fn angle(columns: &[u8], most: i64) -> Result<i64, Malformed> {
     if minutes >= 60 || seconds >= 60 {
         return Err(Malformed);
     }
-    let value = i64::from(degrees) * DEGREE
-        + i64::from(minutes) * MINUTE
-        + i64::from(seconds) * SECOND
-        + i64::from(decimals);
+    let value = degrees * DEGREE + minutes * MINUTE + seconds * SECOND + decimals;
     if value > most {
         return Err(Malformed);
     }
@@ -109,9 +103,9 @@ pub fn angle(columns: &[u8], most: i64) -> Result<i64, Malformed> {
 }
 
 /// A year and month YYYYMM, six digits. Gives the number they spell.
-pub fn month(columns: &[u8]) -> Result<u32, Malformed> {
+pub fn month(columns: &[u8]) -> Result<i64, Malformed> {
     let value = all_digits(columns)?;
-    if is_month(i64::from(value)) {
+    if is_month(value) {
         Ok(value)
     } else {
         Err(Malformed)
@@ -123,8 +117,9 @@ pub fn is_month(value: i64) -> bool {
     (1..=9999).contains(&(value / 100)) && (1..=12).contains(&(value % 100))
 }
 
-/// Digits only and at least one. No field has more than nine of them.
-pub fn all_digits(columns: &[u8]) -> Result<u32, Malformed> {
+/// Digits only and at least one. No field has more than ten of them, and ten
+/// need more than 32 bits.
+pub fn all_digits(columns: &[u8]) -> Result<i64, Malformed> {
     if columns.is_empty() {
         return Err(Malformed);
     }
@@ -133,7 +128,7 @@ pub fn all_digits(columns: &[u8]) -> Result<u32, Malformed> {
         if !byte.is_ascii_digit() {
             return Err(Malformed);
         }
-        value = 10 * value + u32::from(byte - b'0');
+        value = 10 * value + i64::from(byte - b'0');
     }
     Ok(value)
 }
@@ -152,16 +147,15 @@ pub fn put_number(columns: &mut [u8], value: u64) {
     }
 }
 
-/// Missing is blank. A negative height has its minus in the first column.
-pub fn put_height(columns: &mut [u8], value: Option<i32>) {
-    match value {
-        None => columns.fill(b' '),
-        Some(height) if height < 0 => {
-            columns[0] = b'-';
-            put_number(&mut columns[1..], u64::from(height.unsigned_abs()));
-        }
-        Some(height) => put_number(columns, u64::from(height.unsigned_abs())),
-    }
+/// A negative value has its minus in the first column, zero never has one.
+pub fn put_signed(columns: &mut [u8], value: i64) {
+    let digits = if value < 0 {
+        columns[0] = b'-';
+        &mut columns[1..]
+    } else {
+        columns
+    };
+    put_number(digits, value.unsigned_abs());
 }
 
 /// The digits of an angle; its sign is the letter's matter.

@@ -20,7 +20,7 @@ pub const POINT: usize = 9;
 pub const HEIGHTS: usize = 10;
 pub const NETWORK: usize = 11;
 pub const LOCAL: usize = 12;
-pub const LAST_ACCURACY: usize = 13;
+pub const FACTOR: usize = 13;
 
 /// The largest latitude, 90 degrees.
 pub const MOST_LATITUDE: i64 = 90 * DEGREE;
@@ -34,9 +34,16 @@ pub enum Form {
     /// The survey method, always `4`.
     Four,
     /// A number of this range; none of them may be missing.
-    Number { least: u32, most: u32 },
-    /// A signed height in millimetres.
-    Height { optional: bool },
+    Number { least: i64, most: i64 },
+    /// The same, and not the number of as many columns from `other` on.
+    NumberUnlike { least: i64, most: i64, other: usize },
+    /// A number of this range that has a minus where it is negative: the
+    /// height rule at any width. Blank is missing where it is optional.
+    Signed {
+        least: i64,
+        most: i64,
+        optional: bool,
+    },
     /// The code of the height that starts in column `height`: a character
     /// of the set, or blank exactly when that height is missing.
     HeightCode { set: Set, height: usize },
@@ -60,8 +67,6 @@ pub enum Form {
 
 /// The width of every height that has a code.
 pub const CODED_HEIGHT_WIDTH: usize = 7;
-/// The width of a month.
-pub const MONTH_WIDTH: usize = 6;
 
 #[derive(Clone, Copy, Debug, PartialEq, Eq)]
 pub struct Field {
@@ -79,8 +84,17 @@ const fn row(first: usize, last: usize, form: Form) -> Field {
     }
 }
 
-const fn number(least: u32, most: u32) -> Form {
+const fn number(least: i64, most: i64) -> Form {
     Form::Number { least, most }
+}
+
+/// A height in millimetres: the minus takes the place of a digit.
+const fn height(least: i64, most: i64, optional: bool) -> Form {
+    Form::Signed {
+        least,
+        most,
+        optional,
+    }
 }
 
 const fn height_code(set: Set, height: usize) -> Form {
@@ -97,9 +111,27 @@ const EQUIPMENT: Form = number(1, 999);
 /// YYMMDD and HHMM of a *27*: numbers without a calendar.
 const DATE: Form = number(0, 999_999);
 const TIME: Form = number(0, 9_999);
-const HEIGHT: Form = Form::Height { optional: true };
+const HEIGHT: Form = height(-999_999, 9_999_999, true);
 /// The antenna's height of a *27*, which the source does not call optional.
-const ANTENNA_HEIGHT: Form = Form::Height { optional: false };
+const ANTENNA_HEIGHT: Form = height(-9_999, 99_999, false);
+/// The forepoint of a *92*, whose standpoint is another.
+const FOREPOINT: Form = Form::NumberUnlike {
+    least: 1,
+    most: 9_999,
+    other: 11,
+};
+/// A standard deviation in hundredths of a centimetre: nine digits printed
+/// for ten columns.
+const DEVIATION: Form = number(0, 999_999_999);
+/// A correlation in hundred-millionths, from -.9999999 to .99999999 as
+/// printed.
+const CORRELATION: Form = Form::Signed {
+    least: -99_999_990,
+    most: 99_999_999,
+    optional: false,
+};
+/// A variance factor in thousandths: four digits printed for eight columns.
+const VARIANCE_FACTOR: Form = number(1, 9_999);
 const LATITUDE: Form = Form::Angle {
     most: MOST_LATITUDE,
 };
@@ -199,10 +231,38 @@ pub static FIELDS: [&[Field]; 14] = [
         row(56, 56, Form::Code(Set::LetterOrSpace)),
         row(57, 80, Form::Text(Set::Printable)),
     ],
-    // *91*, *92* and *93*: kept as printable bytes.
-    &[row(11, 80, Form::Text(Set::Printable))],
-    &[row(11, 80, Form::Text(Set::Printable))],
-    &[row(11, 80, Form::Text(Set::Printable))],
+    // *91*
+    &[
+        row(11, 14, STATION),
+        row(15, 20, Form::Blank),
+        row(21, 30, DEVIATION),
+        row(31, 40, DEVIATION),
+        row(41, 50, CORRELATION),
+        row(51, 60, DEVIATION),
+        row(61, 64, Form::Blank),
+        row(65, 65, Form::Code(Set::YesOrNo)),
+        row(66, 80, Form::Text(Set::Printable)),
+    ],
+    // *92*
+    &[
+        row(11, 14, STATION),
+        row(15, 16, Form::Blank),
+        row(17, 20, FOREPOINT),
+        row(21, 22, Form::Blank),
+        row(23, 32, DEVIATION),
+        row(33, 42, DEVIATION),
+        row(43, 52, CORRELATION),
+        row(53, 62, DEVIATION),
+        row(63, 66, Form::Blank),
+        row(67, 67, Form::Code(Set::YesOrNo)),
+        row(68, 80, Form::Text(Set::Printable)),
+    ],
+    // *93*
+    &[
+        row(11, 18, VARIANCE_FACTOR),
+        row(19, 26, VARIANCE_FACTOR),
+        row(27, 80, Form::Text(Set::Printable)),
+    ],
 ];
 
 /// The kind that columns 7-10 name, if they hold a known code.
@@ -221,7 +281,7 @@ pub fn kind_of(code: &[u8]) -> Option<usize> {
             [b'8', b'6'] => Some(HEIGHTS),
             [b'9', b'1'] => Some(NETWORK),
             [b'9', b'2'] => Some(LOCAL),
-            [b'9', b'3'] => Some(LAST_ACCURACY),
+            [b'9', b'3'] => Some(FACTOR),
             _ if is_job_code(*first, *second) => Some(JOB),
             _ => None,
         },

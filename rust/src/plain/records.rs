@@ -1,9 +1,7 @@
 //! One record by itself: reading its fields, its house style, writing it.
 
 use super::fields::{self, Malformed};
-use super::layout::{
-    self, Field, Form, CODED_HEIGHT_WIDTH, FIELDS, JOB, KINDS, MONTH_WIDTH, MOST_LONGITUDE,
-};
+use super::layout::{self, Field, Form, CODED_HEIGHT_WIDTH, FIELDS, JOB, KINDS, MOST_LONGITUDE};
 use super::{pointing, Fault, COLUMNS, LAST_RECORD, LINE, MISSING};
 
 /// A fault of one record: its number and column.
@@ -90,11 +88,11 @@ fn judge_sequence(held: &[u8]) -> Result<Option<u32>, At> {
     })
 }
 
-/// Blank or a number from 1.
+/// Blank or a number from 1, of six columns.
 fn sequence(held: &[u8]) -> Result<Option<u32>, Malformed> {
     match fields::number(held)? {
         Some(0) => Err(Malformed),
-        sequence => Ok(sequence),
+        sequence => Ok(sequence.map(|number| number as u32)),
     }
 }
 
@@ -110,12 +108,28 @@ fn judge_field(line: &[u8], field: &Field, values: &mut Vec<i64>) -> Result<(), 
         });
         (9, column)
     })?;
-    let agrees = match field.form {
-        Form::HeightCode { height, .. } => (held == b" ") == height_is_missing(line, height),
-        Form::MonthFrom { from } => !month_is_before(line, field.first, from),
+    require(agrees(line, field), (10, field.first))
+}
+
+/// Whether a field of its kind and range goes with the one before it that it
+/// is held against. Fields are judged from the left, so that one is known to
+/// be well formed.
+#[inline(always)]
+fn agrees(line: &[u8], field: &Field) -> bool {
+    let held = columns(line, field.first, field.width);
+    match field.form {
+        // A height is missing exactly when it is blank.
+        Form::HeightCode { height, .. } => {
+            (held == b" ") == fields::is_blank(columns(line, height, CODED_HEIGHT_WIDTH))
+        }
+        // Both are six digits, so they compare as they are printed.
+        Form::MonthFrom { from } => held >= columns(line, from, field.width),
+        // Blanks and zeros before a number are no part of it.
+        Form::NumberUnlike { other, .. } => {
+            fields::number(held) != fields::number(columns(line, other, field.width))
+        }
         _ => true,
-    };
-    require(agrees, (10, field.first))
+    }
 }
 
 /// Takes the values of a field that is of its kind and range. Inlined, since
@@ -126,15 +140,20 @@ fn take(form: Form, held: &[u8], values: &mut Vec<i64>) -> Result<(), Malformed>
     match form {
         Form::Blank => require(fields::is_blank(held), Malformed)?,
         Form::Four => require(held == b"4", Malformed)?,
-        Form::Number { least, most } => {
+        Form::Number { least, most } | Form::NumberUnlike { least, most, .. } => {
             let value = fields::number(held)?.ok_or(Malformed)?;
             require((least..=most).contains(&value), Malformed)?;
-            values.push(i64::from(value));
+            values.push(value);
         }
-        Form::Height { optional } => {
-            let value = fields::height(held)?;
-            require(optional || value.is_some(), Malformed)?;
-            values.push(value.map_or(MISSING, i64::from));
+        Form::Signed {
+            least,
+            most,
+            optional,
+        } => {
+            let value = fields::signed(held)?;
+            let good = value.map_or(optional, |value| (least..=most).contains(&value));
+            require(good, Malformed)?;
+            values.push(value.unwrap_or(MISSING));
         }
         Form::HeightCode { set, .. } | Form::CodeOrBlank(set) => {
             require(fields::is_blank(held) || set.holds_all(held), Malformed)?;
@@ -149,7 +168,7 @@ fn take(form: Form, held: &[u8], values: &mut Vec<i64>) -> Result<(), Malformed>
                 _ => (),
             }
         }
-        Form::Month | Form::MonthFrom { .. } => values.push(i64::from(fields::month(held)?)),
+        Form::Month | Form::MonthFrom { .. } => values.push(fields::month(held)?),
         Form::Media => take_media(held, values)?,
         Form::Code(set) => {
             require(set.holds_all(held), Malformed)?;
@@ -169,7 +188,7 @@ fn take_media(held: &[u8], values: &mut Vec<i64>) -> Result<(), Malformed> {
         && fields::Set::LetterOrDigit.holds(session);
     require(good, Malformed)?;
     values.push(i64::from(maker));
-    values.push(i64::from(day));
+    values.push(day);
     values.push(i64::from(year - b'0'));
     values.push(i64::from(session));
     // Printable, as the whole line was found to be.
@@ -187,17 +206,6 @@ fn require<F>(good: bool, fault: F) -> Result<(), F> {
 
 fn push_characters(held: &[u8], values: &mut Vec<i64>) {
     values.extend(held.iter().map(|&byte| i64::from(byte)));
-}
-
-/// Fields are judged from the left, so the height is known to be well formed
-/// when its code is judged: it is missing exactly when it is blank.
-fn height_is_missing(line: &[u8], height: usize) -> bool {
-    fields::is_blank(columns(line, height, CODED_HEIGHT_WIDTH))
-}
-
-/// Both are six digits, so they compare as they are printed.
-fn month_is_before(line: &[u8], this: usize, other: usize) -> bool {
-    columns(line, this, MONTH_WIDTH) < columns(line, other, MONTH_WIDTH)
 }
 
 /// Reads one record of a file by its number, judged by itself.
@@ -251,9 +259,9 @@ pub fn field(file: &[u8], record: u64, column: u64) -> (usize, usize) {
     (0, 0)
 }
 
-/// Puts an accepted line of 80 columns into house style. Only numbers,
-/// heights and the letters of angles have more than one dress; everything
-/// else stays as it is.
+/// Puts an accepted line of 80 columns into house style. Only numbers, signed
+/// or not, and the letters of angles have more than one dress; everything
+/// else stays as it is, a missing height too.
 pub(super) fn dress(out: &mut [u8], line: &[u8], kind: usize, sequence: u64) {
     out[..COLUMNS].copy_from_slice(line);
     out[COLUMNS] = b'\n';
@@ -262,14 +270,9 @@ pub(super) fn dress(out: &mut [u8], line: &[u8], kind: usize, sequence: u64) {
         let held = columns(line, field.first, field.width);
         let place = &mut out[field.first - 1..field.first - 1 + field.width];
         match field.form {
-            Form::Number { .. } => {
-                if let Ok(Some(value)) = fields::number(held) {
-                    fields::put_number(place, u64::from(value));
-                }
-            }
-            Form::Height { .. } => {
-                if let Ok(value) = fields::height(held) {
-                    fields::put_height(place, value);
+            Form::Number { .. } | Form::NumberUnlike { .. } | Form::Signed { .. } => {
+                if let Ok(Some(value)) = fields::signed(held) {
+                    fields::put_signed(place, value);
                 }
             }
             Form::AngleLetter { positive, .. } => {
@@ -359,110 +362,101 @@ fn compose_field<'a>(
     words: &mut impl Iterator<Item = i64>,
     texts: &mut impl Iterator<Item = &'a [u8]>,
 ) -> Result<(), At> {
-    let malformed = (9, field.first);
-    let disagrees = (10, field.first);
-    let (start, end) = (field.first - 1, field.first - 1 + field.width);
+    put_field(line, field, words, texts).ok_or((9, field.first))?;
+    require(agrees(line, field), (10, field.first))
+}
+
+/// `None` if what is given is not of the field's kind or range.
+fn put_field<'a>(
+    line: &mut [u8; LINE],
+    field: &Field,
+    words: &mut impl Iterator<Item = i64>,
+    texts: &mut impl Iterator<Item = &'a [u8]>,
+) -> Option<()> {
+    let (place, after) = line[field.first - 1..].split_at_mut(field.width);
     match field.form {
-        Form::Blank => Ok(()),
-        Form::Four => {
-            line[start] = b'4';
-            Ok(())
+        Form::Blank | Form::AngleLetter { .. } => (),
+        Form::Four => place[0] = b'4',
+        Form::Number { least, most } | Form::NumberUnlike { least, most, .. } => {
+            let value = words.next().filter(|value| (least..=most).contains(value));
+            fields::put_number(place, value? as u64);
         }
-        Form::Number { least, most } => {
-            let value = words.next().ok_or(malformed)?;
-            let range = i64::from(least)..=i64::from(most);
-            require(range.contains(&value), malformed)?;
-            fields::put_number(&mut line[start..end], value as u64);
-            Ok(())
-        }
-        Form::Height { optional } => {
-            let value = words.next().ok_or(malformed)?;
-            if value == MISSING {
-                return require(optional, malformed);
-            }
-            // One column of a negative height goes to the minus.
-            let most = 10_i64.pow(field.width as u32) - 1;
-            let least = -(10_i64.pow(field.width as u32 - 1) - 1);
-            require((least..=most).contains(&value), malformed)?;
-            fields::put_height(&mut line[start..end], Some(value as i32));
-            Ok(())
-        }
-        Form::HeightCode { set, height } => {
-            let code = character(words.next()).ok_or(malformed)?;
-            let blank = code == b' ';
-            require(blank || set.holds(code), malformed)?;
-            require(blank == height_is_missing(line, height), disagrees)?;
-            line[start] = code;
-            Ok(())
-        }
-        Form::Angle { most } => {
-            let value = words.next().ok_or(malformed)?;
-            // 180 W is 180 E, so the longitude at the negative end is no value.
-            let least = if most == MOST_LONGITUDE {
-                -most + 1
-            } else {
-                -most
-            };
-            require((least..=most).contains(&value), malformed)?;
-            fields::put_angle(&mut line[start..end], value);
-            // The letter's own field follows and takes no word: the sign has
-            // to be written here.
-            line[end] = if most == MOST_LONGITUDE {
-                fields::letter(value, b'E', b'W')
-            } else {
-                fields::letter(value, b'N', b'S')
-            };
-            Ok(())
-        }
-        Form::AngleLetter { .. } => Ok(()),
+        Form::Signed {
+            least,
+            most,
+            optional,
+        } => match words.next()? {
+            MISSING => return optional.then_some(()),
+            value if (least..=most).contains(&value) => fields::put_signed(place, value),
+            _ => return None,
+        },
+        // The letter's own field takes no word: the sign is written here.
+        Form::Angle { most } => after[0] = put_angle(place, most, words.next()?)?,
         Form::Month | Form::MonthFrom { .. } => {
-            let value = words.next().ok_or(malformed)?;
-            require(fields::is_month(value), malformed)?;
-            fields::put_number(&mut line[start..end], value as u64);
-            if let Form::MonthFrom { from } = field.form {
-                require(!month_is_before(line, field.first, from), disagrees)?;
-            }
-            Ok(())
+            let value = words.next().filter(|&value| fields::is_month(value));
+            fields::put_number(place, value? as u64);
         }
-        Form::Media => {
-            let maker = character(words.next()).ok_or(malformed)?;
-            let day = words.next().ok_or(malformed)?;
-            let year = words.next().ok_or(malformed)?;
-            let session = character(words.next()).ok_or(malformed)?;
-            let good = fields::Set::Letter.holds(maker)
-                && (1..=366).contains(&day)
-                && (0..=9).contains(&year)
-                && fields::Set::LetterOrDigit.holds(session);
-            require(good, malformed)?;
-            line[start] = maker;
-            fields::put_number(&mut line[start + 1..start + 4], day as u64);
-            fields::put_number(&mut line[start + 4..start + 5], year as u64);
-            line[start + 5] = session;
-            for place in &mut line[start + 6..end] {
-                *place = character(words.next()).ok_or(malformed)?;
-            }
-            Ok(())
-        }
-        Form::Code(set) => {
-            for place in &mut line[start..end] {
-                *place = character(words.next()).ok_or(malformed)?;
-            }
-            require(set.holds_all(&line[start..end]), malformed)
-        }
-        Form::CodeOrBlank(set) => {
-            for place in &mut line[start..end] {
-                *place = character(words.next()).ok_or(malformed)?;
-            }
-            let held = &line[start..end];
-            require(fields::is_blank(held) || set.holds_all(held), malformed)
+        Form::Media => put_media(place, words)?,
+        Form::Code(set) => put_characters(place, words, |held| set.holds_all(held))?,
+        Form::CodeOrBlank(set) | Form::HeightCode { set, .. } => {
+            let good = |held: &[u8]| fields::is_blank(held) || set.holds_all(held);
+            put_characters(place, words, good)?;
         }
         Form::Text(set) => {
-            let text = texts.next().ok_or(malformed)?;
-            require(text.len() == field.width && set.holds_all(text), malformed)?;
-            line[start..end].copy_from_slice(text);
-            Ok(())
+            let text = texts.next().filter(|text| text.len() == field.width)?;
+            place.copy_from_slice(text);
+            return set.holds_all(text).then_some(());
         }
     }
+    Some(())
+}
+
+/// Gives the letter of the angle.
+fn put_angle(place: &mut [u8], most: i64, value: i64) -> Option<u8> {
+    let is_longitude = most == MOST_LONGITUDE;
+    // 180 W is 180 E, so the longitude at the negative end is no value.
+    let least = if is_longitude { -most + 1 } else { -most };
+    if !(least..=most).contains(&value) {
+        return None;
+    }
+    fields::put_angle(place, value);
+    let (positive, negative) = if is_longitude {
+        (b'E', b'W')
+    } else {
+        (b'N', b'S')
+    };
+    Some(fields::letter(value, positive, negative))
+}
+
+fn put_media(place: &mut [u8], words: &mut impl Iterator<Item = i64>) -> Option<()> {
+    let maker = character(words.next())?;
+    let day = words.next()?;
+    let year = words.next()?;
+    let session = character(words.next())?;
+    let good = fields::Set::Letter.holds(maker)
+        && (1..=366).contains(&day)
+        && (0..=9).contains(&year)
+        && fields::Set::LetterOrDigit.holds(session);
+    if !good {
+        return None;
+    }
+    place[0] = maker;
+    fields::put_number(&mut place[1..4], day as u64);
+    fields::put_number(&mut place[4..5], year as u64);
+    place[5] = session;
+    put_characters(&mut place[6..], words, |_| true)
+}
+
+/// A word for each column; printable, and then good by the field's own rule.
+fn put_characters(
+    place: &mut [u8],
+    words: &mut impl Iterator<Item = i64>,
+    good: impl Fn(&[u8]) -> bool,
+) -> Option<()> {
+    for column in place.iter_mut() {
+        *column = character(words.next())?;
+    }
+    good(place).then_some(())
 }
 
 /// The printable character a word stands for.

@@ -2,10 +2,10 @@
 
 use super::fields;
 use super::layout::{
-    ANTENNA, COMMENT, HEIGHTS, INSTRUMENT, JOB, LAST_ACCURACY, LOCAL, MEASUREMENT, NETWORK,
-    OCCUPATION, POINT, PROJECT, TITLE, TITLE_MORE,
+    ANTENNA, COMMENT, FACTOR, HEIGHTS, INSTRUMENT, JOB, LOCAL, MEASUREMENT, NETWORK, OCCUPATION,
+    POINT, PROJECT, TITLE, TITLE_MORE,
 };
-use super::records::{self, Compare};
+use super::records::{self, At, Compare};
 use super::{
     Checked, Fault, FIRST_ANTENNA_WORD, FIRST_INSTRUMENT_WORD, LAST_RECORD, LINE, TABLE_WORDS,
 };
@@ -29,7 +29,7 @@ enum Place {
     Heights,
     Network,
     Local,
-    LastAccuracy,
+    Factor,
     LastJobCode,
 }
 
@@ -54,10 +54,8 @@ fn next(place: Place, kind: usize) -> Option<Place> {
         (Place::Point, HEIGHTS) => Some(Place::Heights),
         (Place::Heights | Place::Network, NETWORK) => Some(Place::Network),
         (Place::Heights | Place::Network | Place::Local, LOCAL) => Some(Place::Local),
-        (Place::Heights | Place::Network | Place::Local, LAST_ACCURACY) => {
-            Some(Place::LastAccuracy)
-        }
-        (Place::Heights | Place::Network | Place::Local | Place::LastAccuracy, JOB) => {
+        (Place::Heights | Place::Network | Place::Local, FACTOR) => Some(Place::Factor),
+        (Place::Heights | Place::Network | Place::Local | Place::Factor, JOB) => {
             Some(Place::LastJobCode)
         }
         _ => None,
@@ -159,39 +157,49 @@ fn walk(file: &[u8], table: &mut [u32]) -> Result<[u32; 14], Fault> {
     }
 }
 
+/// The numbers that a record of this kind names, from the left: first column,
+/// width, and the word of the table that number 0 would have.
+fn named(kind: usize) -> &'static [(usize, usize, usize)] {
+    match kind {
+        OCCUPATION => &[
+            (11, 4, 0),
+            (28, 3, FIRST_INSTRUMENT_WORD),
+            (33, 3, FIRST_ANTENNA_WORD),
+        ],
+        NETWORK => &[(11, 4, 0)],
+        LOCAL => &[(11, 4, 0), (17, 4, 0)],
+        _ => &[],
+    }
+}
+
 /// Faults 11 and 12, once the file has no other: a *25* may name a station
 /// whose *80* comes later, so the whole file has to be read first.
 fn references(file: &[u8], table: &[u32]) -> Result<(), Fault> {
-    for (before, line) in file.chunks_exact(LINE).enumerate() {
-        let record = before as u64 + 1;
-        let word =
-            |first, width, start: usize| match fields::number(records::columns(line, first, width))
-            {
-                Ok(Some(number)) => table[start + number as usize],
-                _ => 0,
-            };
-        let fault = |number, column| Fault {
+    for (record, line) in (1..).zip(file.chunks_exact(LINE)) {
+        judge_references(line, record, table).map_err(|(number, column)| Fault {
             number,
-            record,
-            column,
-        };
-        match records::kind(line) {
-            Ok(OCCUPATION) => {
-                if word(11, 4, 0) == 0 {
-                    return Err(fault(12, 11));
-                }
-                if word(28, 3, FIRST_INSTRUMENT_WORD) == 0 {
-                    return Err(fault(12, 28));
-                }
-                if word(33, 3, FIRST_ANTENNA_WORD) == 0 {
-                    return Err(fault(12, 33));
-                }
-            }
-            Ok(POINT) if u64::from(word(11, 4, 0)) != record => return Err(fault(11, 11)),
-            _ => (),
-        }
+            record: u64::from(record),
+            column: column as u64,
+        })?;
     }
     Ok(())
+}
+
+fn judge_references(line: &[u8], record: u32, table: &[u32]) -> Result<(), At> {
+    let kind = records::kind(line)?;
+    let word =
+        |first, width, start: usize| match fields::number(records::columns(line, first, width)) {
+            Ok(Some(number)) => table[start + number as usize],
+            _ => 0,
+        };
+    if kind == POINT && word(11, 4, 0) != record {
+        return Err((11, 11));
+    }
+    let mut named = named(kind).iter();
+    match named.find(|&&(first, width, start)| word(first, width, start) == 0) {
+        Some(&(first, ..)) => Err((12, first)),
+        None => Ok(()),
+    }
 }
 
 /// Checks a file and puts it into `out` in house style.

@@ -1,7 +1,7 @@
 //! Accepted files.
 
 use super::survey::*;
-use super::Specimen;
+use super::{accuracies, Specimen};
 
 pub fn specimens() -> Vec<Specimen> {
     let mut all = vec![
@@ -26,6 +26,7 @@ pub fn specimens() -> Vec<Specimen> {
             long(),
         ),
     ];
+    all.extend(accuracies::accepted());
     all.extend(slips());
     all.extend(dress());
     all
@@ -59,6 +60,14 @@ fn observations() -> Vec<Vec<u8>> {
     ]
 }
 
+/// North, east, correlation and ellipsoid height of three accuracies, padded
+/// in several ways.
+const FIGURES: [[&str; 4]; 3] = [
+    ["        62", "0000000058", " -12345678", "     00110"],
+    ["0000000071", "        64", "   5000000", "       131"],
+    ["        40", "        38", "        -0", "0999999999"],
+];
+
 fn equipment_and_marks() -> Vec<Vec<u8>> {
     let geoid = [(30, "x/y z"), (36, "    -32"), (43, "G")];
     let ellipsoid = [(46, "9999999"), (53, "C")];
@@ -79,10 +88,10 @@ fn equipment_and_marks() -> Vec<Vec<u8>> {
         heights("  12", &[&geoid[..], &ellipsoid[..]].concat()),
         point("9999", "", "38531512345N", "077020100000W"),
         heights("9999", &[]),
-        accuracy("*91*", "0012  0.62  1.10 network, horizontal and up, cm"),
-        accuracy("*91*", "0045  0.58  1.31"),
-        accuracy("*92*", "0012 0045  0.40  0.75 local, cm"),
-        accuracy("*93*", "1.000 {factor}"),
+        network("  12", FIGURES[0], "Y", "{net} 2024 & ~"),
+        network("0045", FIGURES[1], "N", ""),
+        local(["0045", "  12"], FIGURES[2], "N", "!vector 45-12"),
+        factor("    1000", "   02345", "{factors} of the free adjustment"),
         job(),
     ]
 }
@@ -132,9 +141,9 @@ fn long() -> Vec<u8> {
         lines.push(far_heights(station));
     }
     for station in 1..=90 {
-        lines.push(accuracy("*91*", &format!("{station:04}  0.62  1.10")));
+        lines.push(far_network(station));
     }
-    lines.push(accuracy("*93*", "1.000"));
+    lines.push(factor("    1000", "    1000", ""));
     lines.push(job());
     lines.concat()
 }
@@ -175,6 +184,24 @@ fn far_heights(station: u32) -> Vec<u8> {
             &[(17, &height), (24, "A"), (27, "N"), (57, "GNSS leveling")],
         )
     }
+}
+
+/// Half of the correlations are negative, and their minus moves.
+fn far_network(station: i64) -> Vec<u8> {
+    let correlation = (station - 45) * 1_111_111;
+    let figures = [
+        format!("{:>10}", station * 7),
+        format!("{:010}", station * 5),
+        format!("{correlation:>10}"),
+        format!("{:>10}", station * station),
+    ];
+    let scaled = if station % 2 == 0 { "Y" } else { "N" };
+    network(
+        &format!("{station:>4}"),
+        figures.each_ref().map(String::as_str),
+        scaled,
+        "",
+    )
 }
 
 /// The paper's slips but the last, which is a refusal.
@@ -272,10 +299,25 @@ fn house_dress(height: &str) -> Vec<u8> {
         heights("0012", &coded),
         point("0013", "OFF ACCRA", "00000000000N", "000000000000E"),
         heights("0013", &[(36, "-033250"), (43, "9")]),
+        network("0012", FIGURES_IN_HOUSE[0], "Y", "scaled"),
+        local(["0013", "0012"], FIGURES_IN_HOUSE[1], "N", ""),
+        factor("00001000", "00000001", "by hand"),
         job(),
     ])
     .concat()
 }
+
+/// Of dress_house's *91* and *92*.
+const FIGURES_IN_HOUSE: [[&str; 4]; 2] = [
+    ["0000000062", "0999999999", "-000000050", "0000000000"],
+    ["0000000001", "0000001234", "0000000000", "0000000075"],
+];
+
+/// The same figures.
+const FIGURES_IN_OTHER_DRESS: [[&str; 4]; 2] = [
+    ["        62", " 999999999", "       -50", "         0"],
+    ["   0000001", "    001234", "    -00000", "  00000075"],
+];
 
 fn other_dress() -> Vec<u8> {
     let mut lines = vec![
@@ -300,6 +342,9 @@ fn other_dress() -> Vec<u8> {
         ),
         point(" 013", "OFF ACCRA", "00000000000S", "000000000000W"),
         heights("  13", &[(36, " -33250"), (43, "9")]),
+        network(" 012", FIGURES_IN_OTHER_DRESS[0], "Y", "scaled"),
+        local(["  13", " 012"], FIGURES_IN_OTHER_DRESS[1], "N", ""),
+        factor("    1000", "       1", "by hand"),
         job(),
     ];
     let sequences = ["999999", "     1", " 00010", "      ", "000001"];

@@ -1,24 +1,26 @@
 //! Refused files that are the small file with some columns replaced.
 
-use super::survey::small_with;
+use super::survey::{small_with, Change};
 use super::Specimen;
 
-/// Name; fault number, record and column; record, first column and text of
-/// each change; what it is. Fault 9 stands at the first column at which no
-/// acceptable field begins so, 10 and 12 at their field's first: neither need
-/// be a changed one.
-type Row = (
+/// Name; fault number, record and column; the changes; what it is. Fault 9
+/// stands at the first column at which no acceptable field begins so, 10 and
+/// 12 at their field's first: neither need be a changed one.
+pub type Row = (
     &'static str,
     (u32, u64, u64),
-    &'static [(usize, usize, &'static str)],
+    &'static [Change],
     &'static str,
 );
 
 pub fn specimens() -> Vec<Specimen> {
-    ROWS.iter()
-        .map(|&(name, verdict, changes, why)| {
-            Specimen::bad(name, verdict, why, small_with(changes))
-        })
+    of_rows(ROWS, small_with)
+}
+
+/// The files of some rows, each made by `with` from its changes.
+pub fn of_rows(rows: &[Row], with: fn(&[Change]) -> Vec<u8>) -> Vec<Specimen> {
+    rows.iter()
+        .map(|&(name, verdict, changes, why)| Specimen::bad(name, verdict, why, with(changes)))
         .collect()
 }
 

@@ -95,13 +95,13 @@ fn after_the_last() -> Vec<Specimen> {
             "fault_06_before_07",
             (6, 14, 7),
             "a *99* after the last job code: 6 goes before 7",
-            and(&accuracy("*99*", "")),
+            and(&record(&[(7, "*99*")])),
         ),
         Specimen::bad(
             "fault_07_record_after_the_last",
             (7, 14, 7),
             "a *93* after the last job code: nothing may come there",
-            and(&accuracy("*93*", "1.000")),
+            and(&factor("00001000", "00001000", "")),
         ),
     ]
 }
@@ -110,6 +110,8 @@ fn after_the_last() -> Vec<Specimen> {
 fn places() -> Vec<Specimen> {
     let third = measurement("0012", "231111", "1015", "01543");
     let fourth = measurement("0012", "231111", "1130", "01543");
+    let mut accuracies = adjusted()[15..17].to_vec();
+    accuracies.reverse();
     vec![
         Specimen::bad(
             "fault_07_fourth_27",
@@ -139,7 +141,7 @@ fn places() -> Vec<Specimen> {
             "fault_07_91_after_92",
             (7, 14, 7),
             "a *92*, then a *91*: the accuracies come in order",
-            small_before(13, &[accuracy("*92*", "0012"), accuracy("*91*", "0012")]),
+            small_before(13, &accuracies),
         ),
     ]
 }

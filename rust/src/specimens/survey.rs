@@ -145,8 +145,35 @@ pub fn full_heights(station: &str) -> Vec<u8> {
     )
 }
 
-pub fn accuracy(code: &str, text: &str) -> Vec<u8> {
-    record(&[(7, code), (11, text)])
+/// The figures are north, east, correlation and ellipsoid height.
+pub fn network(station: &str, figures: [&str; 4], scaled: &str, comment: &str) -> Vec<u8> {
+    let mut line = record(&[(7, "*91*"), (11, station), (65, scaled), (66, comment)]);
+    put_figures(&mut line, 21, figures);
+    line
+}
+
+pub fn local(stations: [&str; 2], figures: [&str; 4], scaled: &str, comment: &str) -> Vec<u8> {
+    let [from, to] = stations;
+    let mut line = record(&[
+        (7, "*92*"),
+        (11, from),
+        (17, to),
+        (67, scaled),
+        (68, comment),
+    ]);
+    put_figures(&mut line, 23, figures);
+    line
+}
+
+/// Ten columns for each of them.
+fn put_figures(line: &mut [u8], first: usize, figures: [&str; 4]) {
+    for (first, figure) in (first..).step_by(10).zip(figures) {
+        put(line, first, figure);
+    }
+}
+
+pub fn factor(horizontal: &str, vertical: &str, comment: &str) -> Vec<u8> {
+    record(&[(7, "*93*"), (11, horizontal), (19, vertical), (27, comment)])
 }
 
 /// Sequence numbers by the record's number, as house style has them.
@@ -177,13 +204,46 @@ pub fn small() -> Vec<Vec<u8>> {
     ])
 }
 
-/// The small file with some columns of a record replaced.
-pub fn small_with(changes: &[(usize, usize, &str)]) -> Vec<u8> {
-    let mut lines = small();
+/// Some columns of a record replaced: its number, the first column, the text.
+pub type Change = (usize, usize, &'static str);
+
+fn changed(mut lines: Vec<Vec<u8>>, changes: &[Change]) -> Vec<u8> {
     for (number, first, text) in changes {
         put(&mut lines[number - 1], *first, text);
     }
     lines.concat()
+}
+
+/// The small file with some columns replaced.
+pub fn small_with(changes: &[Change]) -> Vec<u8> {
+    changed(small(), changes)
+}
+
+/// The small file with a second station and the accuracies of both: records
+/// 13 and 14 are the *80* and *86* of station 13, 15 and 16 the *91*, 17 the
+/// *92*, 18 the *93*, 19 the job code.
+pub fn adjusted() -> Vec<Vec<u8>> {
+    let first = ["0000000062", "0000000058", "-012345678", "0000000110"];
+    let second = ["0000000071", "0000000064", "0005000000", "0000000131"];
+    let between = ["0000000040", "0000000038", "0000000000", "0000000075"];
+    let mut lines = small();
+    lines.splice(
+        12..12,
+        [
+            second_point("0013"),
+            heights("0013", &[]),
+            network("0012", first, "Y", "free adjustment"),
+            network("0013", second, "Y", ""),
+            local(["0012", "0013"], between, "N", "vector 7 ~"),
+            factor("00001000", "00002345", "HORIZONTAL, {vertical}"),
+        ],
+    );
+    numbered(lines)
+}
+
+/// The adjusted file with some columns replaced.
+pub fn adjusted_with(changes: &[Change]) -> Vec<u8> {
+    changed(adjusted(), changes)
 }
 
 /// The small file with records put before one of its own, by its number.

@@ -2,7 +2,9 @@
 
 use super::judge::{eight, FILL, SIX, ZEROS};
 use super::rows::{copy_filled, Line};
-use crate::plain::layout::{ANTENNA, HEIGHTS, INSTRUMENT, MEASUREMENT, OCCUPATION, POINT};
+use crate::plain::layout::{
+    ANTENNA, FACTOR, HEIGHTS, INSTRUMENT, LOCAL, MEASUREMENT, NETWORK, OCCUPATION, POINT,
+};
 use crate::plain::LINE;
 
 /// Puts an accepted file into an output of its length.
@@ -41,6 +43,15 @@ fn dress_line(line: &Line, out: &mut Line) {
             height::<7>(line, out, 36);
             height::<7>(line, out, 46);
         }
+        [b'9', b'1'] => {
+            copy_filled::<NETWORK>(line, out);
+            correlation(line, out, 41);
+        }
+        [b'9', b'2'] => {
+            copy_filled::<LOCAL>(line, out);
+            correlation(line, out, 43);
+        }
+        [b'9', b'3'] => copy_filled::<FACTOR>(line, out),
         _ => *out = *line,
     }
 }
@@ -57,24 +68,57 @@ fn is_half_turn([first, _]: [u64; 2]) -> bool {
     first == u64::from_le_bytes(*b"18000000")
 }
 
+/// Blanks, perhaps a minus, then digits, in a word of columns.
+struct Signed {
+    /// A bit for each column that holds no digit.
+    no_digit: u64,
+    has_minus: bool,
+    /// What each digit is worth, 0 in the other columns.
+    values: u64,
+}
+
+impl Signed {
+    /// Of the columns in `ours`.
+    #[inline(always)]
+    fn of(columns: u64, ours: u64) -> Signed {
+        let held = columns & ours;
+        // Only digits have this bit, and of blanks and minus only the minus
+        // has the lowest.
+        let no_digit = !held & FILL & ours;
+        Signed {
+            no_digit,
+            has_minus: held & (no_digit >> 4) != 0,
+            values: held & 0x0f0f_0f0f_0f0f_0f0f & !(no_digit - (no_digit >> 4)),
+        }
+    }
+}
+
 /// A height of so many columns: its minus first, its blanks zeros, no minus
 /// before zero; blank if it is missing. All heights go one way here, since
 /// which dress comes next cannot be foreseen.
 #[inline(always)]
 fn height<const WIDTH: usize>(line: &Line, out: &mut Line, first: usize) {
     let ours = u64::MAX >> (64 - 8 * WIDTH);
-    let held = eight(line, first) & ours;
-    // Only digits have this bit, and of blanks and minus only the minus has
-    // the lowest.
-    let no_digit = !held & FILL & ours;
-    let minus = held & (no_digit >> 4);
-    let values = held & 0x0f0f_0f0f_0f0f_0f0f & !(no_digit - (no_digit >> 4));
-    let has_sign = (minus != 0) & (values != 0);
+    let columns = eight(line, first);
+    let held = Signed::of(columns, ours);
+    let has_sign = held.has_minus & (held.values != 0);
     let sign = if has_sign { b'0' ^ b'-' } else { 0 };
-    let digits = (values | (ZEROS & ours)) ^ u64::from(sign);
-    let is_missing = no_digit >> (8 * WIDTH - 4) != 0;
-    let dressed = if is_missing { held } else { digits };
-    put_eight(out, first, dressed | (eight(line, first) & !ours));
+    let digits = (held.values | (ZEROS & ours)) ^ u64::from(sign);
+    let is_missing = held.no_digit >> (8 * WIDTH - 4) != 0;
+    let dressed = if is_missing { columns & ours } else { digits };
+    put_eight(out, first, dressed | (columns & !ours));
+}
+
+/// The same of a correlation, which has ten columns, is never missing, and
+/// has no digit but zeros in the first two.
+#[inline(always)]
+fn correlation(line: &Line, out: &mut Line, first: usize) {
+    let held = Signed::of(eight(line, first + 2), u64::MAX);
+    let has_minus = held.has_minus | (line[first - 1] == b'-') | (line[first] == b'-');
+    let has_sign = has_minus & (held.values != 0);
+    out[first - 1] = if has_sign { b'-' } else { b'0' };
+    out[first] = b'0';
+    put_eight(out, first + 2, held.values | ZEROS);
 }
 
 #[inline(always)]

@@ -5,7 +5,8 @@
 
 use super::rows::{fits, Line};
 use crate::plain::layout::{
-    ANTENNA, HEIGHTS, INSTRUMENT, JOB, MEASUREMENT, OCCUPATION, POINT, PROJECT,
+    ANTENNA, FACTOR, HEIGHTS, INSTRUMENT, JOB, LOCAL, MEASUREMENT, NETWORK, OCCUPATION, POINT,
+    PROJECT,
 };
 
 /// Four digits, the first in the lowest byte.
@@ -36,8 +37,8 @@ fn four(line: &Line, first: usize) -> u32 {
 
 /// A number of four columns.
 #[inline(always)]
-fn station(line: &Line) -> Digits {
-    four(line, 11) | FILL as u32
+fn station(line: &Line, first: usize) -> Digits {
+    four(line, first) | FILL as u32
 }
 
 /// A number of three columns, with a zero before it.
@@ -79,8 +80,7 @@ fn outside_gap(byte: u8) -> bool {
     !(b'9' + 1..b'A').contains(&byte)
 }
 
-/// What every record is asked; of a kind that keeps columns 11-80 as printable
-/// bytes it is all.
+/// What every record is asked; of a comment, which is all text, it is all.
 #[inline(always)]
 pub fn formed<const KIND: usize>(line: &Line) -> bool {
     fits::<KIND>(line) & good_sequence(line)
@@ -136,7 +136,7 @@ pub struct Named {
 #[inline(always)]
 pub fn occupation(line: &Line) -> Option<Named> {
     let named = Named {
-        station: station(line),
+        station: station(line, 11),
         instrument: equipment(line, 28),
         antenna: equipment(line, 33),
     };
@@ -150,7 +150,7 @@ pub fn occupation(line: &Line) -> Option<Named> {
 /// *27*, of its group's station.
 #[inline(always)]
 pub fn measurement(line: &Line, group: Digits) -> bool {
-    formed::<MEASUREMENT>(line) & (station(line) == group)
+    formed::<MEASUREMENT>(line) & (station(line, 11) == group)
 }
 
 /// *70*.
@@ -171,7 +171,7 @@ pub fn antenna(line: &Line) -> Option<Digits> {
 /// *80*.
 #[inline(always)]
 pub fn point(line: &Line) -> Option<Digits> {
-    let number = station(line);
+    let number = station(line, 11);
     let good = formed::<POINT>(line)
         & is_positive(number)
         & at_most(eight(line, 45), eight(line, 48), b"90000000")
@@ -191,7 +191,7 @@ fn at_most(first: u64, last: u64, most: &[u8; 8]) -> bool {
 #[inline(always)]
 pub fn heights(line: &Line, point: Digits) -> bool {
     formed::<HEIGHTS>(line)
-        & (station(line) == point)
+        & (station(line, 11) == point)
         & outside_gap(line[27])
         & outside_gap(line[28])
         & outside_gap(line[42])
@@ -210,4 +210,33 @@ fn codes_agree(line: &Line) -> bool {
     let pairs = unlike(codes, 1) & u64::from_le_bytes([0x10, 0, 0x10, 0, 0, 0x10, 0, 0]);
     let firsts = unlike(codes, 4) | unlike(geoid, 1) | unlike(ellipsoid, 1);
     (pairs | (firsts & 0x10)) == 0
+}
+
+/// *91*. As of a *25*, a station that is zero is found out later.
+#[inline(always)]
+pub fn network(line: &Line) -> Option<Digits> {
+    (formed::<NETWORK>(line) & good_correlation(line, 41)).then_some(station(line, 11))
+}
+
+/// *92*: standpoint and forepoint, which differ.
+#[inline(always)]
+pub fn local(line: &Line) -> Option<[Digits; 2]> {
+    let [from, to] = [station(line, 11), station(line, 17)];
+    let good = formed::<LOCAL>(line) & (from != to) & good_correlation(line, 43);
+    good.then_some([from, to])
+}
+
+/// Whether a correlation is none of the nine below the least: the row takes
+/// every one of eight digits, and only these nines with a minus are too many.
+#[inline(always)]
+fn good_correlation(line: &Line, first: usize) -> bool {
+    let is_negative = (line[first - 1] == b'-') | (line[first] == b'-');
+    let least = u64::from_be_bytes(*b"99999990");
+    !is_negative | (eight(line, first + 2).swap_bytes() <= least)
+}
+
+/// *93*.
+pub fn factor(line: &Line) -> bool {
+    let is_positive = |first| eight(line, first) | FILL != ZEROS;
+    formed::<FACTOR>(line) & is_positive(11) & is_positive(19)
 }

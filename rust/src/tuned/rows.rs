@@ -16,7 +16,7 @@ const BLOCKS: usize = COLUMNS / LANES;
 
 /// What one column takes: a range of characters and two more. Unless it holds
 /// the first of these two, the next column must be `close` or above: so the
-/// blanks of a number, and the minus of a height, stand before its digits.
+/// blanks of a number, and the minus of a signed one, stand before its digits.
 #[derive(Clone, Copy)]
 struct Column {
     low: u8,
@@ -61,7 +61,7 @@ impl Column {
         self.or(b' ', b' ')
     }
 
-    /// A column before the last of a number or height.
+    /// A column before the last of a number, signed or not.
     const fn padded(self, mark: u8) -> Column {
         Column {
             close: b'0',
@@ -83,17 +83,28 @@ const fn of_set(set: Set) -> Column {
     }
 }
 
+/// The digit that stands for so many places: zero where no number up to
+/// `most`, which is all nines, has as many.
+const fn digit_below(most: i64, places: usize) -> Column {
+    if most < 10_i64.pow(places as u32 - 1) {
+        range(b'0', b'0')
+    } else {
+        DIGIT
+    }
+}
+
 /// Column `at` of a field of this width, counted from 0.
 const fn of_field(form: Form, at: usize, width: usize) -> Column {
     let is_last = at + 1 == width;
     match form {
         Form::Blank => range(b' ', b' '),
         Form::Four => range(b'4', b'4'),
-        Form::Number { .. } if is_last => DIGIT,
-        Form::Number { .. } => DIGIT.padded(b' '),
-        Form::Height { optional: true } if is_last => DIGIT.or_space(),
-        Form::Height { .. } if is_last => DIGIT,
-        Form::Height { .. } => DIGIT.padded(b'-'),
+        Form::Signed { optional: true, .. } if is_last => DIGIT.or_space(),
+        Form::Number { .. } | Form::NumberUnlike { .. } | Form::Signed { .. } if is_last => DIGIT,
+        Form::Number { most, .. } | Form::NumberUnlike { most, .. } => {
+            digit_below(most, width - at).padded(b' ')
+        }
+        Form::Signed { most, .. } => digit_below(most, width - at).padded(b'-'),
         Form::HeightCode {
             set: Set::YesOrNo, ..
         } => range(b'Y', b'Y').or(b' ', b'N'),
@@ -168,7 +179,9 @@ const fn fills(kind: usize) -> [u8; COLUMNS] {
     while row < FIELDS[kind].len() {
         let field = FIELDS[kind][row];
         let mut at = 0;
-        while at < field.width && matches!(field.form, Form::Number { .. }) {
+        while at < field.width
+            && matches!(field.form, Form::Number { .. } | Form::NumberUnlike { .. })
+        {
             fills[field.first - 1 + at] = b' ' ^ b'0';
             at += 1;
         }

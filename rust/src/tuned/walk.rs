@@ -3,13 +3,14 @@
 use super::judge::{self, Digits};
 use super::rows::Line;
 use crate::plain::layout::{
-    ANTENNA, COMMENT, HEIGHTS, INSTRUMENT, JOB, LAST_ACCURACY, LOCAL, MEASUREMENT, NETWORK,
-    OCCUPATION, POINT, PROJECT, TITLE, TITLE_MORE,
+    ANTENNA, COMMENT, FACTOR, HEIGHTS, INSTRUMENT, JOB, LOCAL, MEASUREMENT, NETWORK, OCCUPATION,
+    POINT, PROJECT, TITLE, TITLE_MORE,
 };
 use crate::plain::{FIRST_ANTENNA_WORD, FIRST_INSTRUMENT_WORD, LAST_RECORD, LINE, TABLE_WORDS};
 
 /// The word of a number that a *25* named and nothing has defined yet. All
-/// *25* come before all definitions, so one pass settles every reference.
+/// *25* come before all definitions and all *91* and *92* after them, so one
+/// pass settles every reference.
 const NAMED: u32 = u32::MAX;
 
 struct Walk<'a> {
@@ -161,21 +162,43 @@ impl<'a> Walk<'a> {
         }
     }
 
-    /// *91* and *92* as many as there are, and a *93*.
+    /// *91* and *92* as many as there are, and a *93*. They come after all
+    /// definitions, so what they name has to be defined already.
     fn accuracies(&mut self) -> Option<()> {
-        while self.comes(b"91") {
-            self.take_good(judge::formed::<NETWORK>)?;
-            self.counts[NETWORK] += 1;
-        }
-        while self.comes(b"92") {
-            self.take_good(judge::formed::<LOCAL>)?;
-            self.counts[LOCAL] += 1;
-        }
+        self.counts[NETWORK] = self.networks()?;
+        self.counts[LOCAL] = self.locals()?;
         if self.comes(b"93") {
-            self.take_good(judge::formed::<LAST_ACCURACY>)?;
-            self.counts[LAST_ACCURACY] = 1;
+            self.take_good(judge::factor)?;
+            self.counts[FACTOR] = 1;
         }
         Some(())
+    }
+
+    fn networks(&mut self) -> Option<u32> {
+        let before = self.record;
+        while self.comes(b"91") {
+            let station = judge::network(self.take()?)?;
+            self.find(station)?;
+        }
+        Some(self.record - before)
+    }
+
+    fn locals(&mut self) -> Option<u32> {
+        let before = self.record;
+        while self.comes(b"92") {
+            let [from, to] = judge::local(self.take()?)?;
+            self.find(from)?;
+            self.find(to)?;
+        }
+        Some(self.record - before)
+    }
+
+    /// `None` if no point has this station. One that is only [`NAMED`] is
+    /// among the undefined anyway.
+    #[inline(always)]
+    fn find(&self, station: Digits) -> Option<()> {
+        let word = self.table.get(judge::value(station))?;
+        (*word != 0).then_some(())
     }
 
     #[inline(always)]

@@ -4,7 +4,7 @@ use crate::files::{self, Family};
 use crate::least;
 use crate::pointing::every_column_was_named;
 use crate::sides::Sides;
-use shelf::plain::layout::{FIELDS, POINT};
+use shelf::plain::layout::{FACTOR, FIELDS, LOCAL, NETWORK, OCCUPATION, POINT};
 
 fn checked(family: Family, least: u64) -> Sides {
     Sides::over(family, least, |sides, file, _| sides.check(file))
@@ -35,6 +35,27 @@ fn angles() {
     for column in 45..=69 {
         assert!(sides.faults_at(9, POINT, column) > 100);
     }
+}
+
+#[test]
+fn figures() {
+    let sides = checked(files::figures, least::FIGURES);
+    assert!(sides.faults(0) > 1_000 && sides.faults(10) > 0 && sides.faults(12) > 100);
+    for (kind, columns) in [(NETWORK, 21..=60), (LOCAL, 23..=62), (FACTOR, 11..=26)] {
+        for column in columns {
+            assert!(sides.faults_at(9, kind, column) > 100, "{kind}, {column}");
+        }
+    }
+}
+
+/// Which of 10, 11 and 12 is named, and where.
+#[test]
+fn references() {
+    let sides = checked(files::references, least::REFERENCES);
+    assert!(sides.faults(0) > 0 && sides.faults_at(10, LOCAL, 17) > 0);
+    assert!(sides.faults_at(11, POINT, 11) > 0 && sides.faults_at(12, OCCUPATION, 11) > 0);
+    assert!(sides.faults_at(12, NETWORK, 11) > 0);
+    assert!(sides.faults_at(12, LOCAL, 11) > 0 && sides.faults_at(12, LOCAL, 17) > 0);
 }
 
 #[test]

@@ -7,6 +7,7 @@ use shelf::generate::{self, Dice};
 use shelf::plain::layout::{kind_of, FIELDS, OCCUPATION, POINT, PROJECT};
 use shelf::plain::LINE;
 use shelf::sample;
+use std::ops::Range;
 
 pub type Family = fn(&mut dyn FnMut(&[u8], u32));
 
@@ -14,11 +15,17 @@ pub type Family = fn(&mut dyn FnMut(&[u8], u32));
 /// 256.
 pub fn every_byte(try_file: &mut dyn FnMut(&[u8], u32)) {
     let mut file = sample::file();
-    for at in 0..file.len() {
+    let all = 0..file.len();
+    each_byte(&mut file, all, try_file);
+}
+
+/// Each of these bytes of a file as each of the 256.
+fn each_byte(file: &mut [u8], places: Range<usize>, try_file: &mut dyn FnMut(&[u8], u32)) {
+    for at in places {
         let held = file[at];
         for byte in 0..=255 {
             file[at] = byte;
-            try_file(&file, record_of(at));
+            try_file(file, record_of(at));
         }
         file[at] = held;
     }
@@ -53,18 +60,59 @@ pub fn filled(try_file: &mut dyn FnMut(&[u8], u32)) {
 pub fn angles(try_file: &mut dyn FnMut(&[u8], u32)) {
     let good = sample::file();
     for (start, _) in records(&good).filter(|&(_, kind)| kind == POINT) {
-        let record = record_of(start);
+        let record = record_of(start) as usize;
         for angles in ["90000000000N180000000000E", "00000000000S000000000000W"] {
-            let mut file = sample::with(&good, record as usize, 45, angles);
-            for at in start + 44..start + 69 {
-                let held = file[at];
-                for byte in 0..=255 {
-                    file[at] = byte;
-                    try_file(&file, record);
-                }
-                file[at] = held;
-            }
+            let mut file = sample::with(&good, record, 45, angles);
+            each_byte(&mut file, start + 44..start + 69, try_file);
         }
+    }
+}
+
+/// Record, first column and columns of accuracies: at the ends of ranges,
+/// padded and in house style.
+const FIGURES: [(usize, usize, &str); 10] = [
+    (21, 21, "0999999999 999999999-0999999900000000000"),
+    (21, 21, "         0000000000000999999990000000001"),
+    (21, 21, "        17   0000018 -99999990         0"),
+    (22, 23, "0000000000         0  99999999 999999999"),
+    (22, 23, " 9999999990000000001-0000000000999999999"),
+    (22, 23, "         1      1234        -5         0"),
+    (22, 11, "0012   345"),
+    (22, 11, "  12     2"),
+    (23, 11, "0000999900000001"),
+    (23, 11, "       1    9999"),
+];
+
+/// Each of these columns as each byte.
+pub fn figures(try_file: &mut dyn FnMut(&[u8], u32)) {
+    for (record, first, figures) in FIGURES {
+        let mut file = sample::with(&sample::file(), record, first, figures);
+        let start = LINE * (record - 1) + first - 1;
+        each_byte(&mut file, start..start + figures.len(), try_file);
+    }
+}
+
+/// The station of the groups, of a point, of a *91* and both of a *92*: each
+/// defined, defined twice or not at all.
+pub fn references(try_file: &mut dyn FnMut(&[u8], u32)) {
+    let stations = ["0012", " 345", "  13"];
+    // Both groups have one station, so that a point that repeats it need not
+    // leave the other undefined.
+    let groups = [5, 7, 8, 9, 10, 11, 12].map(|record| (record, 11, 0));
+    let others = [
+        (19, 11, 1),
+        (20, 11, 1),
+        (21, 11, 2),
+        (22, 11, 3),
+        (22, 17, 4),
+    ];
+    for number in 0..3_usize.pow(5) {
+        let put = |file: Vec<u8>, &(record, first, place)| {
+            let station = stations[number / 3_usize.pow(place) % 3];
+            sample::with(&file, record, first, station)
+        };
+        let named = groups.iter().chain(&others);
+        try_file(&named.fold(sample::file(), put), 22);
     }
 }
 
@@ -147,6 +195,9 @@ pub fn order(try_file: &mut dyn FnMut(&[u8], u32)) {
         sample::point("0013"),
         sample::heights("0013"),
         sample::measurement("0013"),
+        sample::network("0013"),
+        sample::local("0345", "  12"),
+        sample::local("0345", " 345"),
     ];
     let candidates: Vec<Vec<u8>> = sample::lines().into_iter().chain(others).collect();
     for file in &files {

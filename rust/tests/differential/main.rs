@@ -20,18 +20,20 @@ mod write;
 /// The fewest cases each test has to try; a case is one call, compared.
 mod least {
     pub const EVERY_BYTE: u64 = 24 * 81 * 256;
-    pub const FILLED: u64 = 50_000;
+    pub const FILLED: u64 = 80_000;
     pub const ANGLES: u64 = 2 * 2 * 25 * 256;
+    pub const FIGURES: u64 = (6 * 40 + 2 * 10 + 2 * 16) * 256;
+    pub const REFERENCES: u64 = 243;
     pub const TWO_BYTES: u64 = 150_000;
     pub const DAMAGED: u64 = 40_000;
     pub const CUT: u64 = 10_000;
-    pub const ORDER: u64 = 15_000;
+    pub const ORDER: u64 = 20_000;
     pub const READ_RECORDS: u64 = 300_000;
-    pub const CHARACTERS: u64 = 10 * 80 * 95;
-    pub const BEGINNINGS: u64 = 290_000;
+    pub const CHARACTERS: u64 = 13 * 80 * 95;
+    pub const BEGINNINGS: u64 = 350_000;
     pub const FIELDS: u64 = 1_000_000;
-    pub const WRITE_WORDS: u64 = 100_000;
-    pub const WRITE_TEXTS: u64 = 220_000;
+    pub const WRITE_WORDS: u64 = 130_000;
+    pub const WRITE_TEXTS: u64 = 189_000;
     pub const WRITE_MIXED: u64 = 300_000;
     pub const PAD_ENDS: u64 = 230_000;
     pub const PAD_LENGTHS: u64 = 440_000;
@@ -43,7 +45,9 @@ mod least {
     pub const PAD_RANDOM: u64 = 340_000;
 
     /// Check, rewrite and read each try these families.
-    const ALL: u64 = 3 * (EVERY_BYTE + FILLED + ANGLES + TWO_BYTES + DAMAGED + CUT + ORDER)
+    const OF_FILES: u64 =
+        EVERY_BYTE + FILLED + ANGLES + FIGURES + REFERENCES + TWO_BYTES + DAMAGED + CUT + ORDER;
+    const ALL: u64 = 3 * OF_FILES
         + READ_RECORDS
         + 2 * CHARACTERS
         + BEGINNINGS

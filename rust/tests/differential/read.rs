@@ -30,6 +30,19 @@ fn angles() {
 }
 
 #[test]
+fn figures() {
+    let sides = read(files::figures, least::FIGURES);
+    assert!(sides.faults(0) > 1_000 && sides.faults(10) > 0);
+}
+
+/// A record by itself refers to nothing.
+#[test]
+fn references() {
+    let sides = read(files::references, least::REFERENCES);
+    assert!(sides.faults(0) > 100 && sides.faults(10) > 50);
+}
+
+#[test]
 fn two_bytes() {
     assert!(read(files::two_bytes, least::TWO_BYTES).faults(10) > 100);
 }

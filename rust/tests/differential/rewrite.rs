@@ -24,6 +24,16 @@ fn angles() {
 }
 
 #[test]
+fn figures() {
+    assert!(rewritten(files::figures, least::FIGURES) > 1_000);
+}
+
+#[test]
+fn references() {
+    assert!(rewritten(files::references, least::REFERENCES) > 0);
+}
+
+#[test]
 fn two_bytes() {
     assert!(rewritten(files::two_bytes, least::TWO_BYTES) > 5_000);
 }

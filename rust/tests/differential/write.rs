@@ -55,6 +55,10 @@ fn telling_values() -> Vec<i64> {
         99_999,
         999_999,
         9_999_999,
+        99_999_990,
+        99_999_999,
+        999_999_999,
+        9_999_999_999,
         100,
         101,
         112,
@@ -133,7 +137,8 @@ fn every_kind_and_sequence() {
         }
     }
     sides.tried(1_000);
-    assert!(sides.faults(0) > 20);
+    // Three kinds are one text, and three of the sequence numbers are good.
+    assert!(sides.faults(0) >= 3 * 3);
     assert!(sides.faults_at(9, KINDS.len(), 1) > 0 && sides.faults_at(9, KINDS.len(), 7) > 0);
 }
 

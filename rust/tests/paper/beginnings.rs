@@ -9,6 +9,7 @@
 use crate::pointing::read_says;
 use crate::sample::lines;
 use std::collections::HashSet;
+use std::ops::RangeInclusive;
 
 /// Every string of so many of these characters.
 fn strings(width: usize, characters: &str) -> Vec<String> {
@@ -56,7 +57,7 @@ fn is_digits(text: &str) -> bool {
 }
 
 /// The number that some digits spell, if they are digits.
-fn value(text: &str) -> Option<u32> {
+fn value(text: &str) -> Option<u64> {
     text.parse().ok().filter(|_| is_digits(text))
 }
 
@@ -64,8 +65,12 @@ fn without_blanks(text: &str) -> &str {
     text.trim_start_matches(' ')
 }
 
-fn is_number_from(least: u32, text: &str) -> bool {
-    value(without_blanks(text)).is_some_and(|number| number >= least)
+fn is_number_from(least: u64, text: &str) -> bool {
+    is_number_of(least..=u64::MAX, text)
+}
+
+fn is_number_of(range: RangeInclusive<u64>, text: &str) -> bool {
+    value(without_blanks(text)).is_some_and(|number| range.contains(&number))
 }
 
 fn is_height(text: &str) -> bool {
@@ -89,8 +94,8 @@ fn stations() {
     let some = strings(4, " 0123456789-A.");
     hold(5, 11, &some, |text| is_number_from(1, text));
     let few = strings(4, " 01A");
-    for record in [7, 17, 18] {
-        hold(record, 11, &few, |text| is_number_from(1, text));
+    for (record, first) in [(7, 11), (17, 11), (18, 11), (21, 11), (22, 11), (22, 17)] {
+        hold(record, first, &few, |text| is_number_from(1, text));
     }
 }
 
@@ -132,6 +137,47 @@ fn heights() {
 }
 
 #[test]
+fn deviations() {
+    let is_deviation = |text: &str| is_number_of(0..=999_999_999, text);
+    hold(21, 21, &strings(10, " 01"), is_deviation);
+    let some = with_tails(strings(4, " 019-."));
+    for (record, first) in [(21, 31), (21, 51), (22, 23), (22, 33), (22, 53)] {
+        hold(record, first, &some, is_deviation);
+    }
+}
+
+#[test]
+fn correlations() {
+    let is_correlation = |text: &str| match without_blanks(text).strip_prefix('-') {
+        Some(digits) => value(digits).is_some_and(|number| number <= 99_999_990),
+        None => is_number_of(0..=99_999_999, text),
+    };
+    hold(21, 41, &strings(10, " -0"), is_correlation);
+    let some = with_tails(strings(4, " -019+."));
+    for (record, first) in [(21, 41), (22, 43)] {
+        hold(record, first, &some, is_correlation);
+    }
+}
+
+/// Four columns with six behind them: figures at the ends of their ranges and
+/// beside them, and what is good up to some column.
+fn with_tails(heads: Vec<String>) -> Vec<String> {
+    let tails = [
+        "000000", "000001", "999999", "999990", "999991", "      ", "     0", "     1", "99999 ",
+        "99999-", "-00000", "-00001", "    -0", "     -", "   -00", "   -0 ", "0 0000", "00.000",
+    ];
+    let with_tail = |head: String| tails.map(|tail| head.clone() + tail);
+    heads.into_iter().flat_map(with_tail).collect()
+}
+
+#[test]
+fn factors() {
+    let is_factor = |text: &str| is_number_of(1..=9_999, text);
+    hold(23, 11, &strings(8, " 01A"), is_factor);
+    hold(23, 19, &strings(8, " 09"), is_factor);
+}
+
+#[test]
 fn months() {
     let is_month = |text: &str| {
         let year = value(&text[..4]).is_some_and(|year| year >= 1);
@@ -169,7 +215,7 @@ fn angles(heads: Vec<String>) -> Vec<String> {
     heads.into_iter().flat_map(with_decimals).collect()
 }
 
-fn is_angle(most: u32, text: &str) -> bool {
+fn is_angle(most: u64, text: &str) -> bool {
     let (degrees, rest) = text.split_at(text.len() - 9);
     let below_60 = |text| value(text).is_some_and(|number| number < 60);
     is_digits(text)
@@ -230,6 +276,9 @@ fn single_columns() {
         is_blank(text) || is_in(LETTERS_AND_DIGITS, text)
     });
     hold(18, 27, &all, |text| is_in("YN ", text));
+    for (record, first) in [(21, 65), (22, 67)] {
+        hold(record, first, &all, |text| is_in("YN", text));
+    }
     hold(17, 56, &all, |text| is_in("NS", text));
     hold(17, 69, &all, |text| is_in("EW", text));
     hold(4, 76, &all, |text| text == "4");

@@ -1,4 +1,4 @@
-//! The worked example of the README: each deposit in `examples/` beside its
+//! The worked examples of the README: each deposit in `examples/` beside its
 //! sheet.
 
 use shelf::plain::sheet;
@@ -19,7 +19,7 @@ fn deposits() -> Vec<PathBuf> {
 #[test]
 fn each_example_has_its_sheet() {
     let deposits = deposits();
-    assert_eq!(deposits.len(), 2);
+    assert_eq!(deposits.len(), 3);
     for path in deposits {
         let printed = fs::read(path.with_extension("sheet")).unwrap();
         assert_eq!(sheet(&fs::read(&path).unwrap()), printed, "{path:?}");
@@ -27,11 +27,16 @@ fn each_example_has_its_sheet() {
 }
 
 #[test]
-fn one_example_is_accepted_and_one_has_lost_a_height() {
+fn two_examples_are_accepted_and_one_has_lost_a_height() {
     let first_lines: Vec<String> = deposits()
         .iter()
         .map(|path| String::from_utf8(sheet(&fs::read(path).unwrap())).unwrap())
         .map(|text| text.lines().next().unwrap().to_owned())
         .collect();
-    assert_eq!(first_lines, ["FILE\t34\t10\t30\t24", "FILE\t34\t0\t0\t0"]);
+    let expected = [
+        "FILE\t47\t0\t0\t0",
+        "FILE\t34\t10\t30\t24",
+        "FILE\t34\t0\t0\t0",
+    ];
+    assert_eq!(first_lines, expected);
 }

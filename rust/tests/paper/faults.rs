@@ -395,7 +395,7 @@ fn good_fields_are_taken() {
 }
 
 /// Record, first column replaced, text, column of the fault.
-const DISAGREEING: [(usize, usize, &str, u64); 18] = [
+const DISAGREEING: [(usize, usize, &str, u64); 21] = [
     // The end before the beginning.
     (4, 17, "201910", 17),
     (4, 17, "000112", 17),
@@ -420,6 +420,10 @@ const DISAGREEING: [(usize, usize, &str, u64); 18] = [
     (20, 27, "N", 27),
     (20, 43, "6", 43),
     (20, 53, "B", 53),
+    // A *92* of one station: 12 and 12, 345 and 345.
+    (22, 17, "0012", 17),
+    (22, 17, "  12", 17),
+    (22, 11, "0345", 17),
 ];
 
 #[test]

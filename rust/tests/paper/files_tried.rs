@@ -134,6 +134,23 @@ fn the_slips_are_rewritten_as_they_should_be() {
 }
 
 #[test]
+fn accuracies_are_rewritten_as_they_should_be() {
+    let ends = data("accepted_accuracies_at_their_ends.bfile");
+    assert_eq!(house(&ends), ends);
+    let dressed = house(&data("accepted_accuracies_in_other_dress.bfile"));
+    for (record, first, expected) in [
+        (15, 21, "00000000000999999999-0999999900000000000"),
+        (16, 21, "0999999999000000000000999999990999999999"),
+        (17, 23, "0000000001000000000200000000000000000003"),
+        (18, 23, "00000000000000000000-0000000500000000000"),
+        (19, 11, "0000000100009999"),
+    ] {
+        let held = columns(&dressed, record, first, expected.len());
+        assert_eq!(held, expected, "record {record}");
+    }
+}
+
+#[test]
 fn the_same_meaning_is_the_same_file() {
     let first = data("dress_house.bfile");
     let second = data("dress_other.bfile");

@@ -34,7 +34,8 @@ fn generated_files_have_the_size_asked_for_and_are_accepted() {
 fn files_of_one_kind_are_accepted_and_have_few_other_records() {
     for (mostly, kinds, most) in [
         (Mostly::Comments, &["26"][..], 10_000),
-        (Mostly::Accuracies, &["91"], 10_000),
+        (Mostly::Network, &["91"], 10_000),
+        (Mostly::Local, &["92"], 10_000),
         (Mostly::Groups, &["25", "27"], 10_000),
         (Mostly::Equipment, &["70", "72"], 2 * 999 + 9),
         (Mostly::Points, &["80", "86"], 10_000),
@@ -47,50 +48,56 @@ fn files_of_one_kind_are_accepted_and_have_few_other_records() {
             assert!(found <= records && found + 3 > records.min(most));
             let others = (1..=found)
                 .filter(|&record| !kinds.contains(&columns(&file, record, 8, 2).as_str()));
-            assert!(others.count() <= FEWEST, "{mostly:?}, {records}");
+            // A *92* needs a second *80* with its *86*.
+            assert!(others.count() <= FEWEST + 2, "{mostly:?}, {records}");
         }
     }
 }
 
+/// A code, and what some of its records are to have, found in columns.
+type Dress = (&'static str, &'static str, fn(&str) -> bool);
+
+const DRESSES: [Dress; 11] = [
+    ("25", "padded station", |line| part(line, 11, 1) == " "),
+    ("27", "blank sequence", |line| part(line, 1, 6) == "      "),
+    ("86", "minus inside", |line| {
+        part(line, 17, 7).rfind('-') > Some(0)
+    }),
+    ("86", "minus zero", |line| part(line, 17, 7) == "-000000"),
+    ("86", "missing height", |line| {
+        part(line, 17, 7) == "       "
+    }),
+    ("80", "south", |line| part(line, 56, 1) == "S"),
+    ("80", "180 W", |line| part(line, 57, 13) == "180000000000W"),
+    ("91", "padded deviation", |line| part(line, 21, 1) == " "),
+    ("91", "minus inside", |line| {
+        part(line, 41, 10).rfind('-') > Some(0)
+    }),
+    ("91", "least correlation", |line| {
+        part(line, 42, 9).ends_with("99999990")
+    }),
+    ("92", "minus zero", |line| {
+        part(line, 43, 10).trim_start().trim_end_matches('0') == "-"
+    }),
+];
+
+/// Columns of a line, from `first` on.
+fn part(line: &str, first: usize, width: usize) -> &str {
+    &line[first - 1..first - 1 + width]
+}
+
 #[test]
 fn every_dress_occurs() {
-    let mut padded = 0;
-    let mut blank_sequence = 0;
-    let mut inner_minus = 0;
-    let mut minus_zero = 0;
-    let mut missing = 0;
-    let mut south = 0;
-    let mut west_end = 0;
-    for file in files() {
-        for record in 1..=file.len() / 81 {
-            let text = |first, width| columns(&file, record, first, width);
-            blank_sequence += u32::from(text(1, 6) == "      ");
-            match text(8, 2).as_str() {
-                "25" => padded += u32::from(text(11, 1) == " "),
-                "86" => {
-                    inner_minus += u32::from(text(17, 7).rfind('-') > Some(0));
-                    minus_zero +=
-                        u32::from(text(17, 7).trim_start_matches([' ', '0']) == "-000000");
-                    missing += u32::from(text(17, 7) == "       ");
-                }
-                "80" => {
-                    south += u32::from(text(56, 1) == "S");
-                    west_end += u32::from(text(57, 13) == "180000000000W");
-                }
-                _ => (),
-            }
-        }
-    }
-    for count in [
-        padded,
-        blank_sequence,
-        inner_minus,
-        minus_zero,
-        missing,
-        south,
-        west_end,
-    ] {
-        assert!(count > 20, "{count}");
+    let lines: Vec<String> = files()
+        .flat_map(|file| file.chunks(81).map(<[u8]>::to_vec).collect::<Vec<_>>())
+        .map(|line| String::from_utf8(line).unwrap())
+        .collect();
+    for (code, dress, is_so) in DRESSES {
+        let found = lines
+            .iter()
+            .filter(|line| part(line, 8, 2) == code && is_so(line));
+        let count = found.count();
+        assert!(count > 10, "{code} {dress}: {count}");
     }
 }
 

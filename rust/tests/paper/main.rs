@@ -1,8 +1,10 @@
 //! The paper's own examples, faults and slips, worked out by hand, and
 //! generated files.
 
+mod accuracies;
 mod beginnings;
 mod columns;
+mod every_change;
 mod examples;
 mod faults;
 mod files_tried;

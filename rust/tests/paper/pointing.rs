@@ -11,10 +11,10 @@ use shelf::plain::{sheet, Plain, MISSING};
 const SIDES: [(&str, &dyn Calls); 2] = [("plain", &Plain), ("library", &Library)];
 
 /// A record of the sample with the first and last column of a field.
-type Place = (usize, usize, usize);
+pub type Place = (usize, usize, usize);
 
 /// Numbers from 1: stations, instruments, antennas, the equipment code.
-const NUMBERS: [Place; 9] = [
+const NUMBERS: [Place; 12] = [
     (5, 11, 14),
     (5, 28, 30),
     (5, 33, 35),
@@ -24,9 +24,24 @@ const NUMBERS: [Place; 9] = [
     (15, 11, 13),
     (17, 11, 14),
     (18, 11, 14),
+    (21, 11, 14),
+    (22, 11, 14),
+    (22, 17, 20),
 ];
 /// Numbers from 0: date and time.
 const NUMBERS_FROM_0: [Place; 2] = [(7, 15, 20), (7, 21, 24)];
+/// Numbers of fewer digits than columns: they have tests of their own, with
+/// the other figures of accuracies.
+pub const DEVIATIONS: [Place; 6] = [
+    (21, 21, 30),
+    (21, 31, 40),
+    (21, 51, 60),
+    (22, 23, 32),
+    (22, 33, 42),
+    (22, 53, 62),
+];
+pub const CORRELATIONS: [Place; 2] = [(21, 41, 50), (22, 43, 52)];
+pub const FACTORS: [Place; 2] = [(23, 11, 18), (23, 19, 26)];
 const ANTENNA_HEIGHT: Place = (7, 56, 60);
 /// These may be missing.
 const HEIGHTS: [Place; 3] = [(18, 17, 23), (18, 36, 42), (18, 46, 52)];
@@ -38,7 +53,7 @@ const LONGITUDE: Place = (17, 57, 68);
 const PAIRS: [Place; 2] = [(18, 25, 26), (18, 28, 29)];
 /// Each column by its set, with what is good in it; a code beside a height
 /// may be blank.
-const BY_SETS: [(&str, &[Place]); 11] = [
+const BY_SETS: [(&str, &[Place]); 12] = [
     (LETTERS, &[(4, 77, 78), (15, 33, 36), (17, 77, 78)]),
     (
         LETTERS_OR_SPACE,
@@ -73,12 +88,18 @@ const BY_SETS: [(&str, &[Place]); 11] = [
             (18, 15, 16),
             (18, 44, 45),
             (18, 54, 55),
+            (21, 15, 20),
+            (21, 61, 64),
+            (22, 15, 16),
+            (22, 21, 22),
+            (22, 63, 66),
         ],
     ),
     ("4", &[(4, 76, 76)]),
     ("NS", &[(17, 56, 56)]),
     ("EW", &[(17, 69, 69)]),
     ("YN ", &[(18, 27, 27)]),
+    ("YN", &[(21, 65, 65), (22, 67, 67)]),
     (
         PRINTABLE,
         &[
@@ -92,9 +113,9 @@ const BY_SETS: [(&str, &[Place]); 11] = [
             (17, 15, 44),
             (18, 30, 35),
             (18, 57, 80),
-            (21, 11, 80),
-            (22, 11, 80),
-            (23, 11, 80),
+            (21, 66, 80),
+            (22, 68, 80),
+            (23, 27, 80),
         ],
     ),
 ];
@@ -119,7 +140,7 @@ pub fn read_says(file: &[u8], record: u32) -> [u32; 3] {
 }
 
 /// Number, record and column of check and of rewrite, which both sides give.
-fn check_says(file: &[u8]) -> [u32; 3] {
+pub fn check_says(file: &[u8]) -> [u32; 3] {
     let (number, record, column) = verdict(file);
     let expected = [number, record as u32, column as u32];
     for (name, side) in SIDES {
@@ -136,7 +157,7 @@ fn check_says(file: &[u8]) -> [u32; 3] {
 
 /// What check, rewrite, read and the sheet say of the sample with some columns
 /// of a record replaced.
-fn refused(record: usize, first: usize, text: &str) -> [u32; 3] {
+pub fn refused(record: usize, first: usize, text: &str) -> [u32; 3] {
     let file = with(&file(), record, first, text);
     let fault = check_says(&file);
     let about = format!("record {record} column {first} {text:?}");
@@ -148,7 +169,7 @@ fn refused(record: usize, first: usize, text: &str) -> [u32; 3] {
 }
 
 /// Each of these texts at the start of a field is fault 9 at this column.
-fn named((record, first, _): Place, texts: &[(&str, usize)]) {
+pub fn named((record, first, _): Place, texts: &[(&str, usize)]) {
     for (text, column) in texts {
         assert_eq!(
             refused(record, first, text),
@@ -161,7 +182,7 @@ fn named((record, first, _): Place, texts: &[(&str, usize)]) {
 #[test]
 fn degrees_91_in_a_latitude_is_column_46_and_station_0000_is_column_14() {
     named(LATITUDE, &[("91000000000", 46)]);
-    for record in [5, 7, 17, 18] {
+    for record in [5, 7, 17, 18, 21, 22] {
         named((record, 11, 14), &[("0000", 14)]);
     }
 }
@@ -178,6 +199,9 @@ fn every_field_of_every_kind_is_held() {
     let places: Vec<Place> = sets
         .chain(NUMBERS)
         .chain(NUMBERS_FROM_0)
+        .chain(DEVIATIONS)
+        .chain(CORRELATIONS)
+        .chain(FACTORS)
         .chain(HEIGHTS)
         .chain(MONTHS)
         .chain(PAIRS)
@@ -525,6 +549,7 @@ fn fault_10_keeps_its_fields_first_column() {
         (14, 11, "007"),
         (16, 11, "  3"),
         (18, 11, "0012"),
+        (22, 17, "  12"),
     ] {
         let file = with(&good, record, first, text);
         assert_eq!(check_says(&file), [10, record as u32, first as u32]);
@@ -563,6 +588,15 @@ fn write_names_the_fields_first_column() {
         (18, 4, character(b' '), 25),
         (18, 7, character(b'a'), 28),
         (18, 8, -1_000_000, 36),
+        (21, 1, 1_000_000_000, 21),
+        (21, 3, -99_999_991, 41),
+        (21, 3, MISSING, 41),
+        (21, 5, character(b' '), 65),
+        (22, 1, 0, 17),
+        (22, 4, 100_000_000, 43),
+        (22, 5, -1, 53),
+        (23, 0, 0, 11),
+        (23, 1, 10_000, 19),
     ] {
         let (mut values, texts) = as_read(record);
         values[2 + word] = value;

@@ -99,9 +99,17 @@ fn the_sample_reads_as_printed() {
             ]
         )
     );
-    assert_eq!(reading(21), expected(11, None, vec![]));
-    assert_eq!(reading(22), expected(12, None, vec![]));
-    assert_eq!(reading(23), expected(13, None, vec![]));
+    assert_eq!(
+        reading(21),
+        expected(
+            11,
+            None,
+            vec![vec![345, 123, 98, -12_345_678, 256], letters("Y")]
+        )
+    );
+    let figures = vec![12, 345, 999_999_999, 0, 50_000_000, 123_456];
+    assert_eq!(reading(22), expected(12, None, vec![figures, letters("N")]));
+    assert_eq!(reading(23), expected(13, None, vec![vec![1_000, 2_345]]));
     assert_eq!(reading(24), expected(0, Some(10), vec![letters("A1")]));
 }
 
@@ -140,8 +148,13 @@ fn read_judges_a_record_by_itself() {
         Err(fault(10, 4, 17))
     );
     assert_eq!(read(&with(&file, 20, 43, "6"), 20), Err(fault(10, 20, 43)));
+    assert_eq!(
+        read(&with(&file, 22, 17, "  12"), 22),
+        Err(fault(10, 22, 17))
+    );
     assert_eq!(read(&with(&file, 7, 11, "0345"), 7).unwrap().values[0], 345);
     assert_eq!(read(&with(&file, 14, 11, "001"), 14).unwrap().values[0], 1);
+    assert_eq!(read(&with(&file, 21, 11, "0001"), 21).unwrap().values[0], 1);
     // Nor is its place.
     let reversed: Vec<u8> = lines().into_iter().rev().flatten().collect();
     assert_eq!(read(&reversed, 5).unwrap(), read(&file, 20).unwrap());
@@ -255,9 +268,38 @@ fn field_starts_where_the_tables_say() {
                 (57, 24),
             ],
         ),
-        (21, whole.clone()),
-        (22, whole.clone()),
-        (23, whole),
+        (
+            21,
+            vec![
+                (11, 4),
+                (15, 6),
+                (21, 10),
+                (31, 10),
+                (41, 10),
+                (51, 10),
+                (61, 4),
+                (65, 1),
+                (66, 15),
+            ],
+        ),
+        (
+            22,
+            vec![
+                (11, 4),
+                (15, 2),
+                (17, 4),
+                (21, 2),
+                (23, 10),
+                (33, 10),
+                (43, 10),
+                (53, 10),
+                (63, 4),
+                (67, 1),
+                (68, 13),
+            ],
+        ),
+        (23, vec![(11, 8), (19, 8), (27, 54)]),
+        (24, whole),
     ];
     let file = file();
     for (record, starts) in rows {

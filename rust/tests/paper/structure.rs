@@ -15,9 +15,11 @@ fn record(code: &str) -> Vec<u8> {
         "27" => measurement("0012"),
         "70" => instrument("008"),
         "72" => antenna("004"),
-        "80" => point("0345"),
+        "80" => point("0013"),
         "86" => no_heights("0012"),
-        "91" | "92" | "93" => accuracy(&format!("*{code}*")),
+        "91" => network("  12"),
+        "92" => local("  12", "0345"),
+        "93" => factor(),
         _ => unreachable!(),
     }
 }
@@ -30,8 +32,8 @@ const CODES: [&str; 15] = [
 fn places() -> Vec<(Vec<Vec<u8>>, Vec<&'static str>)> {
     let mut places = Vec::new();
     let mut so_far: Vec<Vec<u8>> = Vec::new();
-    let mut place = |more: Option<Vec<u8>>, may_come: &str| {
-        so_far.extend(more);
+    let mut place = |more: &[Vec<u8>], may_come: &str| {
+        so_far.extend_from_slice(more);
         let may_come = match may_come {
             "" => Vec::new(),
             codes => CODES
@@ -41,31 +43,34 @@ fn places() -> Vec<(Vec<Vec<u8>>, Vec<&'static str>)> {
         };
         places.push((so_far.clone(), may_come));
     };
-    place(None, "A1 B2");
-    place(Some(job()), "10");
-    place(Some(title()), "11 12");
-    place(Some(title_more()), "12");
-    place(Some(project()), "25");
-    place(Some(occupation("0012")), "26 27");
-    place(Some(comment()), "26 27");
-    place(Some(comment()), "26 27");
-    place(Some(measurement("0012")), "27");
-    place(Some(measurement("0012")), "27 25 70");
-    place(Some(measurement("0012")), "25 70");
+    place(&[], "A1 B2");
+    place(&[job()], "10");
+    place(&[title()], "11 12");
+    place(&[title_more()], "12");
+    place(&[project()], "25");
+    place(&[occupation("0012")], "26 27");
+    place(&[comment()], "26 27");
+    place(&[comment()], "26 27");
+    place(&[measurement("0012")], "27");
+    place(&[measurement("0012")], "27 25 70");
+    place(&[measurement("0012")], "25 70");
     // A new group counts its measurements anew.
-    place(Some(occupation("0012")), "26 27");
-    place(Some(measurement("0012")), "27");
-    place(Some(measurement("0012")), "27 25 70");
-    place(Some(instrument("007")), "70 72");
-    place(Some(antenna("003")), "72 80");
-    place(Some(point("0012")), "86");
-    place(Some(no_heights("0012")), "80 91 92 93 A1");
-    place(Some(accuracy("*91*")), "91 92 93 A1");
-    place(Some(accuracy("*91*")), "91 92 93 A1");
-    place(Some(accuracy("*92*")), "92 93 A1");
-    place(Some(accuracy("*92*")), "92 93 A1");
-    place(Some(accuracy("*93*")), "A1");
-    place(Some(job()), "");
+    place(&[occupation("0012")], "26 27");
+    place(&[measurement("0012")], "27");
+    place(&[measurement("0012")], "27 25 70");
+    place(&[instrument("007")], "70 72");
+    place(&[antenna("003")], "72 80");
+    place(&[point("0012")], "86");
+    place(&[no_heights("0012")], "80 91 92 93 A1");
+    // A *92* names two stations.
+    let second = [point("0345"), no_heights("0345")];
+    place(&second, "80 91 92 93 A1");
+    place(&[network("  12")], "91 92 93 A1");
+    place(&[network("  12")], "91 92 93 A1");
+    place(&[local("  12", "0345")], "92 93 A1");
+    place(&[local("  12", "0345")], "92 93 A1");
+    place(&[factor()], "A1");
+    place(&[job()], "");
     places
 }
 

@@ -113,6 +113,17 @@ const NO_HEIGHTS: [i64; 13] = [
 ];
 const HEIGHTS_TEXTS: [&[u8]; 3] = [b"NGS   ", b"set by hand             ", b""];
 
+const NETWORK: [i64; 6] = [345, 123, 98, -12_345_678, 256, c(b'Y')];
+const NETWORK_TEXTS: [&[u8]; 3] = [b"{scaled}  a&b ~", b"", b""];
+const LOCAL: [i64; 7] = [12, 345, 999_999_999, 0, 50_000_000, 123_456, c(b'N')];
+const LOCAL_TEXTS: [&[u8]; 3] = [b"Not scaled; ~", b"", b""];
+const FACTOR: [i64; 2] = [1_000, 2_345];
+const FACTOR_TEXTS: [&[u8]; 3] = [
+    b"horizontal & vertical                                ~",
+    b"",
+    b"",
+];
+
 fn changed<const N: usize>(values: [i64; N], at: usize, value: i64) -> [i64; N] {
     let mut values = values;
     values[at] = value;
@@ -128,12 +139,10 @@ fn every_kind_is_written_in_house_style() {
         good(0, Some(1), &JOB, [&text, nothing, nothing]),
         line(&[(1, "000001"), (7, "*A1*"), (80, "~")])
     );
-    for (kind, code) in [(5, "*26*"), (11, "*91*"), (12, "*92*"), (13, "*93*")] {
-        assert_eq!(
-            good(kind, Some(999_999), &[], [&text, nothing, nothing]),
-            line(&[(1, "999999"), (7, code), (80, "~")])
-        );
-    }
+    assert_eq!(
+        good(5, Some(999_999), &[], [&text, nothing, nothing]),
+        line(&[(1, "999999"), (7, "*26*"), (80, "~")])
+    );
     text[69] = b'\\';
     for (kind, code) in [(1, "*10*"), (2, "*11*")] {
         assert_eq!(
@@ -203,6 +212,134 @@ fn every_kind_is_written_in_house_style() {
         good(10, None, &NO_HEIGHTS, HEIGHTS_TEXTS),
         line(&[(7, "*86*"), (11, "0345"), (30, "NGS"), (57, "set by hand")])
     );
+}
+
+#[test]
+fn accuracies_are_written_in_house_style() {
+    let figures = "00000001230000000098-0123456780000000256";
+    assert_eq!(
+        good(11, None, &NETWORK, NETWORK_TEXTS),
+        line(&[(7, "*91*0345"), (21, figures), (65, "Y{scaled}  a&b ~")])
+    );
+    let figures = "0999999999000000000000500000000000123456";
+    assert_eq!(
+        good(12, Some(220), &LOCAL, LOCAL_TEXTS),
+        line(&[
+            (1, "000220*92*0012  0345"),
+            (23, figures),
+            (67, "NNot scaled; ~")
+        ])
+    );
+    assert_eq!(
+        good(13, None, &FACTOR, FACTOR_TEXTS),
+        line(&[(7, "*93*0000100000002345horizontal & vertical"), (80, "~")])
+    );
+}
+
+/// Each figure at both ends of its range, and beside them.
+#[test]
+fn ends_of_the_accuracies() {
+    let deviations = [
+        (0, true),
+        (999_999_999, true),
+        (-1, false),
+        (1_000_000_000, false),
+    ];
+    let correlations = [
+        (-99_999_990, true),
+        (99_999_999, true),
+        (0, true),
+        (-99_999_991, false),
+        (100_000_000, false),
+    ];
+    let stations = [
+        (1, true),
+        (9_999, true),
+        (0, false),
+        (10_000, false),
+        (-1, false),
+    ];
+    let factors = [
+        (1, true),
+        (9_999, true),
+        (0, false),
+        (10_000, false),
+        (-1, false),
+    ];
+    let codes = [
+        (c(b'Y'), true),
+        (c(b'N'), true),
+        (c(b' '), false),
+        (c(b'y'), false),
+    ];
+    let rows: [&[(i64, bool)]; 5] = [&stations, &deviations, &correlations, &factors, &codes];
+    let [station, deviation, correlation, factor, code] = rows;
+    for (word, ends, column) in [
+        (0, station, 11),
+        (1, deviation, 21),
+        (2, deviation, 31),
+        (3, correlation, 41),
+        (4, deviation, 51),
+        (5, code, 65),
+    ] {
+        ends_of_a_word(11, &NETWORK, NETWORK_TEXTS, word, ends, column);
+    }
+    for (word, ends, column) in [
+        (0, station, 11),
+        (1, station, 17),
+        (2, deviation, 23),
+        (3, deviation, 33),
+        (4, correlation, 43),
+        (5, deviation, 53),
+        (6, code, 67),
+    ] {
+        ends_of_a_word(12, &LOCAL, LOCAL_TEXTS, word, ends, column);
+    }
+    for (word, column) in [(0, 11), (1, 19)] {
+        ends_of_a_word(13, &FACTOR, FACTOR_TEXTS, word, factor, column);
+    }
+}
+
+/// Values of one word, and whether each is good; the others are fault 9 at
+/// its field's first column, as is what only looks good in fewer bits, and
+/// what is missing.
+fn ends_of_a_word(
+    kind: i64,
+    values: &[i64],
+    texts: [&[u8]; 3],
+    word: usize,
+    ends: &[(i64, bool)],
+    column: u64,
+) {
+    let far = [MISSING, i64::MAX, MISSING + 1].map(|value| (value, false));
+    let cut = ends.iter().map(|&(value, _)| (value + (1 << 32), false));
+    for (value, is_good) in ends.iter().copied().chain(far).chain(cut) {
+        let mut values = values.to_vec();
+        values[word] = value;
+        let expected = if is_good { ACCEPTED } else { (9, 0, column) };
+        assert_eq!(verdict(kind, &values, texts), expected, "{values:?}");
+    }
+}
+
+#[test]
+fn fault_10_for_a_forepoint_that_is_the_standpoint() {
+    assert_eq!(
+        verdict(12, &changed(LOCAL, 1, 12), LOCAL_TEXTS),
+        (10, 0, 17)
+    );
+    assert_eq!(
+        verdict(12, &changed(LOCAL, 0, 345), LOCAL_TEXTS),
+        (10, 0, 17)
+    );
+    // Two that are no stations are fault 9, the first of them at 11.
+    let none = changed(changed(LOCAL, 0, 0), 1, 0);
+    assert_eq!(verdict(12, &none, LOCAL_TEXTS), (9, 0, 11));
+    let large = changed(LOCAL, 1, 10_000);
+    assert_eq!(verdict(12, &large, LOCAL_TEXTS), (9, 0, 17));
+    // It goes before what is wrong further right.
+    let both = changed(changed(LOCAL, 1, 12), 2, 1_000_000_000);
+    assert_eq!(verdict(12, &both, LOCAL_TEXTS), (10, 0, 17));
+    assert_eq!(verdict(12, &changed(LOCAL, 1, 12), [b""; 3]), (10, 0, 17));
 }
 
 #[test]
@@ -502,13 +639,16 @@ fn fault_10_for_months_and_height_codes() {
 
 #[test]
 fn texts_have_the_exact_width_and_their_characters() {
-    let cases: [Case; 6] = [
+    let cases: [Case; 9] = [
         (0, &JOB, [SEVENTY, b"", b""], &[11]),
         (3, &PROJECT, PROJECT_TEXTS, &[26, 47]),
         (7, &INSTRUMENT, INSTRUMENT_TEXTS, &[23, 63, 71]),
         (8, &ANTENNA, ANTENNA_TEXTS, &[17, 45]),
         (9, &POINT, POINT_TEXTS, &[15]),
         (10, &HEIGHTS, HEIGHTS_TEXTS, &[30, 57]),
+        (11, &NETWORK, NETWORK_TEXTS, &[66]),
+        (12, &LOCAL, LOCAL_TEXTS, &[68]),
+        (13, &FACTOR, FACTOR_TEXTS, &[27]),
     ];
     for (kind, values, texts, starts) in cases {
         for slot in 0..3 {
@@ -546,7 +686,7 @@ fn texts_have_the_exact_width_and_their_characters() {
 /// The first column of the field of each word.
 #[test]
 fn too_few_words_are_fault_9_at_the_first_field_that_lacks_one() {
-    let cases: [Case; 8] = [
+    let cases: [Case; 11] = [
         (0, &JOB, [SEVENTY, b"", b""], &[7, 7]),
         (
             3,
@@ -570,6 +710,9 @@ fn too_few_words_are_fault_9_at_the_first_field_that_lacks_one() {
             HEIGHTS_TEXTS,
             &[11, 17, 24, 25, 25, 27, 28, 28, 36, 43, 46, 53, 56],
         ),
+        (11, &NETWORK, NETWORK_TEXTS, &[11, 21, 31, 41, 51, 65]),
+        (12, &LOCAL, LOCAL_TEXTS, &[11, 17, 23, 33, 43, 53, 67]),
+        (13, &FACTOR, FACTOR_TEXTS, &[11, 19]),
     ];
     for (kind, values, texts, starts) in cases {
         assert_eq!(values.len(), starts.len());

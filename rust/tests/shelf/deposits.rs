@@ -21,6 +21,12 @@ pub fn height_lost() -> Vec<u8> {
     stored("tuburan-bay-height-lost.bfile")
 }
 
+/// A deposit of 47 records; 37 to 46 are accuracies as an adjustment leaves
+/// them, with blanks in front and without sequence numbers.
+pub fn network() -> Vec<u8> {
+    stored("bantilan-ridge.bfile")
+}
+
 fn with_each_line(file: &[u8], change: impl Fn(&str) -> String) -> Vec<u8> {
     let text = std::str::from_utf8(file).unwrap();
     text.lines().map(change).collect::<String>().into_bytes()

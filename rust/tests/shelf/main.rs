@@ -1,5 +1,6 @@
 //! The command line, run as a user would run it.
 
+mod accuracies;
 mod check;
 mod deposits;
 mod desk;

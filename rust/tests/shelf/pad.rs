@@ -273,12 +273,12 @@ fn json_says_what_padding_did_or_would_do() {
         accepted("good.b", ""),
         refused(
             "short.b",
-            [4, 1, 61, 23],
+            [4, 1, 61, 24],
             byte,
             ",\"padding\":\"would help\"",
         ),
-        refused("lost.b", [4, 1, 61, 23], byte, ""),
-        refused("long.b", [4, 1, 61, 23], byte, ""),
+        refused("lost.b", [4, 1, 61, 24], byte, ""),
+        refused("long.b", [4, 1, 61, 24], byte, ""),
     ];
     assert_eq!(ran.out, expected.concat());
 }
@@ -439,7 +439,7 @@ fn a_record_of_the_padded_file() {
         "in.b: refused, fault 13, record 35, column 0\n    \
          there is no such record\n    the file has 34 whole records\n"
     );
-    // As it stands there are 23, and record 30 is the one that is bad.
+    // As it stands there are 24, and record 30 is the one that is bad.
     let advice = "    with --pad, which fills its lines to 80 columns, the record could be shown\n";
     for (record, helps) in [("13", true), ("29", true), ("30", false), ("35", false)] {
         let ran = desk.run(&["show", "in.b", record]).ended(1);

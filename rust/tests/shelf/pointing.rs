@@ -7,7 +7,7 @@ use shelf::{plain, sample};
 use std::ops::RangeInclusive;
 
 /// A record of the sample and the first column of a field in it.
-type Place = (usize, usize);
+pub type Place = (usize, usize);
 
 /// What check says of `bad.b`: the field's own words, and behind them what the
 /// column could have held, if anything is said of it.
@@ -28,7 +28,7 @@ fn refusal(file: &[u8], record: usize, column: usize, words: &str, could: &str) 
 
 /// Each text put into the sample there: the column that is named, and what is
 /// said that it could have held.
-fn pointed(name: &str, place: Place, words: &str, cases: &[(&str, usize, &str)]) {
+pub fn pointed(name: &str, place: Place, words: &str, cases: &[(&str, usize, &str)]) {
     let desk = Desk::new(&format!("pointing-{name}"));
     let (record, first) = place;
     for (text, column, could) in cases {
@@ -419,8 +419,8 @@ fn of_a_well_formed_field_nothing_more_is_said() {
         (
             sample::with(&good, 5, 28, "  9"),
             "fault 12, record 5, column 28\n    \
-             a *25* names an undefined number: instrument in columns 28-30 is defined by no \
-             record of this file\n",
+             a *25*, *91* or *92* names an undefined number: instrument in columns 28-30 is \
+             defined by no record of this file\n",
         ),
     ] {
         desk.put("bad.b", &file);
@@ -430,7 +430,7 @@ fn of_a_well_formed_field_nothing_more_is_said() {
 }
 
 /// Where nothing is said: titles, names, and fields of one column.
-const SILENT: [(usize, RangeInclusive<usize>); 12] = [
+const SILENT: [(usize, RangeInclusive<usize>); 14] = [
     (2, 11..=80),
     (3, 11..=80),
     (4, 26..=43),
@@ -443,6 +443,8 @@ const SILENT: [(usize, RangeInclusive<usize>); 12] = [
     (18, 43..=43),
     (18, 53..=53),
     (18, 56..=56),
+    (21, 65..=65),
+    (22, 67..=67),
 ];
 
 /// The sample with a bad field.

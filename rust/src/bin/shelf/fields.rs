@@ -34,8 +34,11 @@ pub enum Form {
     Date,
     /// HHMM, without a clock.
     Time,
-    Height {
-        optional: bool,
+    /// A whole number of the last decimal that it is shown with.
+    Decimal {
+        places: usize,
+        unit: &'static str,
+        what: &'static str,
     },
     Latitude,
     Longitude,
@@ -88,14 +91,9 @@ impl Field {
             }
             Form::Sequence => "a number from 1 to 999999, blanks only in front; or all blank",
             Form::Code(what) | Form::Text(what) | Form::Letter(what) => what,
+            Form::Decimal { what, .. } => what,
             Form::Date => "a number YYMMDD, blanks only in front",
             Form::Time => "a number HHMM, blanks only in front",
-            Form::Height { optional: true } => {
-                "a height in millimetres: blanks, perhaps a minus, digits; or all blank"
-            }
-            Form::Height { optional: false } => {
-                "a height in millimetres: blanks, perhaps a minus, digits"
-            }
             Form::Latitude => "eleven digits DDMMSSsssss, at most 90 degrees",
             Form::Longitude => "twelve digits DDDMMSSsssss, at most 180 degrees",
             Form::Month => "six digits YYYYMM, month 01 to 12",
@@ -131,16 +129,28 @@ const fn code(first: u32, last: u32, name: &'static str, what: &'static str) -> 
     row(first, last, name, Form::Code(what))
 }
 
-const fn height(first: u32, name: &'static str) -> Field {
-    row(first, first + 6, name, Form::Height { optional: true })
+const fn decimal(places: usize, unit: &'static str, what: &'static str) -> Form {
+    Form::Decimal { places, unit, what }
 }
 
-const fn station(agrees: &'static str) -> Field {
+const fn height(first: u32, name: &'static str) -> Field {
+    row(first, first + 6, name, HEIGHT)
+}
+
+const fn deviation(first: u32, name: &'static str) -> Field {
+    row(first, first + 9, name, DEVIATION)
+}
+
+const fn correlation(first: u32) -> Field {
+    row(first, first + 9, "correlation coefficient", CORRELATION)
+}
+
+const fn station(first: u32, name: &'static str) -> Field {
     let form = Form::Number {
         least: 1,
         most: 9_999,
     };
-    row(11, 14, "station", form).agreeing(agrees)
+    row(first, first + 3, name, form)
 }
 
 const fn equipment(first: u32, name: &'static str) -> Field {
@@ -162,6 +172,32 @@ const NAME: &str = "A-Z, 0-9, space and * , ' = ) ( - . + /";
 const LETTERS: &str = "letters A-Z";
 const LETTERS_OR_SPACES: &str = "letters A-Z or spaces";
 const WITH_ITS_HEIGHT: &str = "blank exactly when its height is missing";
+const SCALED: &str = "Y or N";
+const HEIGHT: Form = decimal(
+    3,
+    " m",
+    "a height in millimetres: blanks, perhaps a minus, digits; or all blank",
+);
+const ANTENNA_HEIGHT: Form = decimal(
+    3,
+    " m",
+    "a height in millimetres: blanks, perhaps a minus, digits",
+);
+const DEVIATION: Form = decimal(
+    2,
+    " cm",
+    "a number of hundredths of a centimetre from 0 to 999999999, blanks only in front",
+);
+const CORRELATION: Form = decimal(
+    8,
+    "",
+    "a number of hundred-millionths from -99999990 to 99999999: blanks, perhaps a minus, digits",
+);
+const FACTOR: Form = decimal(
+    3,
+    "",
+    "a number of thousandths from 1 to 9999, blanks only in front",
+);
 
 /// The fields from column 11 on of each kind, in the order of the counts.
 static FIELDS: [&[Field]; 14] = [
@@ -182,7 +218,7 @@ static FIELDS: [&[Field]; 14] = [
         blank(79, 80),
     ],
     &[
-        station(""),
+        station(11, "station"),
         row(15, 24, "media identifier", Form::Media),
         code(25, 27, "observer's initials", LETTERS_OR_SPACES),
         equipment(28, "instrument"),
@@ -192,11 +228,11 @@ static FIELDS: [&[Field]; 14] = [
     ],
     &[text(11, 80, "comment")],
     &[
-        station("the station of the *25* of its group"),
+        station(11, "station").agreeing("the station of the *25* of its group"),
         row(15, 20, "date of observation", Form::Date),
         row(21, 24, "time of observation", Form::Time),
         blank(25, 55),
-        row(56, 60, "antenna height", Form::Height { optional: false }),
+        row(56, 60, "antenna height", ANTENNA_HEIGHT),
         blank(61, 80),
     ],
     &[
@@ -218,7 +254,7 @@ static FIELDS: [&[Field]; 14] = [
         blank(65, 80),
     ],
     &[
-        station(""),
+        station(11, "station"),
         text(15, 44, "name of the mark"),
         row(45, 55, "latitude", Form::Latitude),
         row(56, 56, "letter of the latitude", Form::Letter("N or S")),
@@ -229,7 +265,7 @@ static FIELDS: [&[Field]; 14] = [
         blank(79, 80),
     ],
     &[
-        station("the station of the *80* before it"),
+        station(11, "station").agreeing("the station of the *80* before it"),
         blank(15, 16),
         height(17, "orthometric height"),
         code(24, 24, "orthometric height code", LETTERS_OR_SPACES).agreeing(WITH_ITS_HEIGHT),
@@ -246,9 +282,36 @@ static FIELDS: [&[Field]; 14] = [
         code(56, 56, "ellipsoid datum", LETTERS_OR_SPACES),
         text(57, 80, "comment"),
     ],
-    &[text(11, 80, "text")],
-    &[text(11, 80, "text")],
-    &[text(11, 80, "text")],
+    &[
+        station(11, "station"),
+        blank(15, 20),
+        deviation(21, "north standard deviation"),
+        deviation(31, "east standard deviation"),
+        correlation(41),
+        deviation(51, "ellipsoid height standard deviation"),
+        blank(61, 64),
+        code(65, 65, "scaled code", SCALED),
+        text(66, 80, "comment"),
+    ],
+    &[
+        station(11, "standpoint station"),
+        blank(15, 16),
+        station(17, "forepoint station")
+            .agreeing("another than the standpoint station in columns 11-14"),
+        blank(21, 22),
+        deviation(23, "north standard deviation"),
+        deviation(33, "east standard deviation"),
+        correlation(43),
+        deviation(53, "ellipsoid height standard deviation"),
+        blank(63, 66),
+        code(67, 67, "scaled code", SCALED),
+        text(68, 80, "comment"),
+    ],
+    &[
+        row(11, 18, "horizontal factor", FACTOR),
+        row(19, 26, "vertical factor", FACTOR),
+        text(27, 80, "comment"),
+    ],
 ];
 
 pub fn fields(kind: usize) -> &'static [Field] {
@@ -283,7 +346,7 @@ pub fn kind_of(line: &[u8]) -> Option<usize> {
 #[cfg(test)]
 mod tests {
     use super::{fields, KIND_NAMES};
-    use shelf::plain::layout;
+    use shelf::plain::layout::{self, Form};
     use shelf::{library, sample};
 
     #[test]
@@ -296,6 +359,22 @@ mod tests {
                 .iter()
                 .map(|field| (field.first, field.width));
             assert!(named.eq(rows), "kind {kind}");
+        }
+    }
+
+    #[test]
+    fn a_range_in_words_is_the_layouts() {
+        let kinds = (0..KIND_NAMES.len()).map(|kind| (fields(kind), layout::FIELDS[kind]));
+        for (named, row) in kinds.flat_map(|(named, rows)| named.iter().zip(rows)) {
+            let (Form::Number { least, most }
+            | Form::NumberUnlike { least, most, .. }
+            | Form::Signed { least, most, .. }) = row.form
+            else {
+                continue;
+            };
+            let words = named.expected();
+            let range = format!(" from {least} to {most}");
+            assert_eq!(words.contains(" from "), words.contains(&range), "{words}");
         }
     }
 

@@ -111,7 +111,8 @@ mod tests {
         assert_eq!(verdict_on(1, 1, "000010"), Ok(good));
         for (record, first, text) in [
             // A sequence number, a padded number, a height, an angle, a
-            // code, a text, a job code.
+            // code, a text, a job code; a correlation and the padding of a
+            // deviation, a code of one column, a factor, a comment.
             (2, 1, "000021"),
             (5, 11, "  12"),
             (18, 17, "0012346"),
@@ -120,6 +121,11 @@ mod tests {
             (6, 80, "x"),
             (24, 11, "h"),
             (2, 11, "n"),
+            (21, 41, "-012345679"),
+            (21, 21, "       123"),
+            (22, 67, "Y"),
+            (23, 11, "00001001"),
+            (23, 80, "x"),
         ] {
             assert!(verdict_on(record, first, text).is_err(), "{record} {first}");
         }

@@ -21,7 +21,7 @@ const MEANINGS: [&str; 14] = [
     "a field not of its kind or range",
     "a field well formed that disagrees with an earlier one",
     "an *80* repeats a station number",
-    "a *25* names an undefined number",
+    "a *25*, *91* or *92* names an undefined number",
     "there is no such record",
 ];
 

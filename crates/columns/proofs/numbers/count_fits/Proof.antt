@@ -7,6 +7,10 @@ use Rattle.columns.proofs.numbers.count_fits.Tie as tie
 pub count-fits-spec : {M : Type 1} → statement M
 count-fits-spec =
     tie.close
-    (tie.spec (λ c. search needs) (λ c. search needs) (λ c. search needs) (λ c κs. search needs)
-    (λ c. let a = c .before .before .args in count-missing (a .width) (a .lo) (a .hi) (a .may) (c .enum-told .given .1))
-    (λ c. let a = c .before .before .before .before .args in count-is (a .width) (a .lo) (a .hi) (a .may) (c .before .before .c .given .1) (c .has-room .ensures)))
+    (tie.spec
+    (λ c. search needs)
+    (λ c. search needs)
+    (λ c κs. search needs)
+    (λ c κs. search needs)
+    (λ c. search (count-missing, needs))
+    (λ c. search (count-is, needs)))

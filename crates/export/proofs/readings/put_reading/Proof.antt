@@ -1,4 +1,4 @@
-use Rattle.export.proofs.WordLaws.{told-small, answer-unread, answer-read}
+use Rattle.export.proofs.WordLaws.{told-small, told-held, answer-unread, answer-read}
 use borrow.Author.Needs.{needs}
 use Rattle.export.proofs.readings.put_reading.Statement.{statement}
 use Rattle.export.proofs.readings.put_reading.Tie as tie
@@ -20,7 +20,7 @@ put-reading-spec =
     (λ c. search needs)
     put-refusal-requires
     (λ c. search needs)
-    (λ c κs. search needs)
+    (λ c κs. search (told-held, needs))
     (λ c. search needs)
     returns
     (λ c. search needs)

@@ -1,4 +1,5 @@
-use Rattle.export.proofs.WordLaws.{widens, missing-word, height-word}
+use Rattle.columns.proofs.Signed.{widens}
+use Rattle.export.proofs.WordLaws.{missing-word, height-word}
 use borrow.Author.Needs.{needs}
 use Rattle.export.proofs.words.height_word.Statement.{statement}
 use Rattle.export.proofs.words.height_word.Tie as tie

@@ -1,5 +1,5 @@
 use borrow.Author.Needs.{needs}
-use Rattle.judging.proofs.FieldLaws.{agrees-free, agrees-expected, agrees-before, agrees-with}
+use Rattle.judging.proofs.FieldLaws.{agrees-free, agrees-expected, agrees-before, agrees-with, agrees-apart}
 use Rattle.judging.proofs.fields.agrees_item.Statement.{statement}
 use Rattle.judging.proofs.fields.agrees_item.Tie as tie
 
@@ -20,7 +20,12 @@ agrees-item-spec =
     (λ c κs. search needs)
     (λ c κs. search needs)
     (λ c κs. search needs)
+    (λ c. search needs)
+    (λ c κs. search needs)
+    (λ c κs. search needs)
+    (λ c κs. search needs)
     (λ c. search (agrees-free, needs))
     (λ c. search (agrees-expected, needs))
     (λ c. search (agrees-before, needs))
-    (λ c. search (agrees-with, needs)))
+    (λ c. search (agrees-with, needs))
+    (λ c. search (agrees-apart, needs)))

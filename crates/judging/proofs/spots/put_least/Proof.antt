@@ -42,7 +42,7 @@ put-least-spec =
     least-number (length (a .args .out .now)) _ _ _ (c .before .before .before .before .before .before .kind2 .given .1) _ (c .before .before .before .long .ensures) (c .before .before .put-digits .ensures))
     (λ c. search needs)
     (λ c. let a = c .before .before .before .before .before .before .before .before in
-    least-height (length (a .args .out .now)) _ (c .before .before .before .before .before .kind3 .given .1) (c .before .before .put-digits2 .ensures))
+    least-height (length (a .args .out .now)) _ _ _ (c .before .before .before .before .before .kind3 .given .1) (c .before .before .put-digits2 .ensures))
     (λ c. search needs)
     (λ c. let a = c .before .before .before .before .before .before .before .before in
     least-angle (length (a .args .out .now)) _ (a .args .out .now) (c .before .before .before .before .before .kind4 .given .1) (a .pre) refl (c .before .before .put-angle .ensures))

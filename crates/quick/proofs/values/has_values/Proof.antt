@@ -1,4 +1,3 @@
-use mathlib.Core.Path.{refl}
 use mathlib.Core.Bool.{false≢true}
 use borrow.Author.Needs.{needs}
 use Rattle.quick.proofs.CodeLaws.{kind-rest, text-rest}
@@ -15,14 +14,15 @@ has-values-spec =
     (λ c κs. search needs)
     (λ c κs. search needs)
     (λ c κs. search needs)
+    (λ c κs. search needs)
+    (λ c κs. search needs)
     (λ c. search (kind-rest, needs))
-    (λ c. search (text-rest 5 refl, needs))
+    (λ c. search (text-rest, needs))
     (λ c. search (kind-rest, needs))
     (λ c. search (kind-rest, needs))
     (λ c. search (kind-rest, needs))
     (λ c. search (kind-rest, needs))
     (λ c. search (kind-rest, needs))
-    (λ c. search (text-rest 11 refl, needs))
-    (λ c. search (text-rest 12 refl, needs))
-    (λ c. search (text-rest 13 refl, needs))
+    (λ c. search (kind-rest, needs))
+    (λ c. search (kind-rest, needs))
     (λ c. λ q. absurd (false≢true q)))

@@ -20,13 +20,13 @@ returns-4 : tie.Need-returns-4
 returns-4 c = let s = c .before .before .before .before .before .before in let e : s .args .kind ≡ 10 = omega arith in of-kind 10 (s .args .kind) (s .args .line .now) (ap R.Heights (c .read-heights .ensures) ∙ heights-is (s .args .line .now)) e
 
 returns-5 : tie.Need-returns-5
-returns-5 c = let s = c .before .before .before .before .before .before .before in let e : s .args .kind ≡ 11 = omega arith in of-kind 11 (s .args .kind) (s .args .line .now) (ap R.Network (c .new .ensures) ∙ network-is (s .args .line .now)) e
+returns-5 c = let s = c .before .before .before .before .before .before .before in let e : s .args .kind ≡ 11 = omega arith in of-kind 11 (s .args .kind) (s .args .line .now) (ap R.Network (c .read-network .ensures) ∙ network-is (s .args .line .now)) e
 
 returns-6 : tie.Need-returns-6
-returns-6 c = let s = c .before .before .before .before .before .before .before .before in let e : s .args .kind ≡ 12 = omega arith in of-kind 12 (s .args .kind) (s .args .line .now) (ap R.Local (c .new2 .ensures) ∙ local-is (s .args .line .now)) e
+returns-6 c = let s = c .before .before .before .before .before .before .before .before in let e : s .args .kind ≡ 12 = omega arith in of-kind 12 (s .args .kind) (s .args .line .now) (ap R.Local (c .read-local .ensures) ∙ local-is (s .args .line .now)) e
 
 returns-7 : tie.Need-returns-7
-returns-7 c = let s = c .before .before .before .before .before .before .before .before in let e : s .args .kind ≡ 13 = omega arith in of-kind 13 (s .args .kind) (s .args .line .now) (ap R.Factor (c .new3 .ensures) ∙ factor-is (s .args .line .now)) e
+returns-7 c = let s = c .before .before .before .before .before .before .before .before in let e : s .args .kind ≡ 13 = omega arith in of-kind 13 (s .args .kind) (s .args .line .now) (ap R.Factor (c .read-factor .ensures) ∙ factor-is (s .args .line .now)) e
 
 pub read-high-spec : {M : Type 1} → statement M
 read-high-spec =

@@ -1,24 +1,12 @@
 -- What is laid is what the field renders; without room nothing changes.
-use mathlib.Core.Path.{sym, ap, _∙_}
 use borrow.Author.Needs.{needs}
 use native.Mathlib.Omega.{arith}
 use mathlib.Core.Bool.{true}
-use Prim.Native.Nat.{_+_, _-_, _≤_}
-use lib.ListN.{length}
-use Rattle.writing.proofs.LayLaws.{room-fits, lent-wide, lay-put, lay-not, count-wide}
+use Rattle.writing.proofs.LayLaws.{room-of, lent-put, lent-not, count-wide}
 use Rattle.rules.specs.Items.{number, render}
 use Rattle.columns.specs.Types.{countValue}
 use Rattle.writing.proofs.laying.lay_count.Statement.{statement}
 use Rattle.writing.proofs.laying.lay_count.Tie as tie
 
-room : (c : tie.Then1) → (1 ≤ c .before .before .before .args .column) × (c .before .before .before .args .column - 1 + c .before .before .before .args .w ≤ length (c .before .before .before .args .line .now))
-room c = let a = c .before .before .before .args in room-fits (length (a .line .now)) (a .column) (a .w) (sym (c .before .has-room .ensures) ∙ c .if1 .taken)
-
-returns : tie.Need-returns
-returns c =
-    let a = c .before .before .before .before .before .before .before .args in
-    let h = sym (c .before .before .before .before .before .has-room .ensures) ∙ c .before .before .before .before .if1 .taken in
-    lay-put (a .column) (a .w) (a .line .now) h (c .before .before .put-count .ensures ∙ ap (λ k. render (number k 0 0 true) (countValue (a .c))) (lent-wide (a .column) (a .w) (a .line .now) h)) (count-wide (a .w) (a .c))
-
 pub lay-count-spec : {M : Type 1} → statement M
-lay-count-spec = tie.close (tie.spec (λ c κs. search needs) (λ c. omega (arith, room c)) (λ c. omega (arith, room c)) (λ c. search needs) (λ c. search needs) (λ c. omega (arith, room c)) (λ c κs. search needs) (λ c. search needs) returns (λ c. let a = c .before .before .before .args in lay-not (a .column) (a .w) (a .line .now) _ (sym (c .before .has-room .ensures) ∙ c .if1 .left) (count-wide (a .w) (a .c))))
+lay-count-spec = tie.close (tie.spec (λ c κs. search needs) (λ c. let r = room-of _ _ _ (c .before .has-room .ensures) (c .if1 .taken) in omega (arith, r)) (λ c. let r = room-of _ _ _ (c .before .has-room .ensures) (c .if1 .taken) in omega (arith, r)) (λ c. search needs) (λ c. search needs) (λ c. let r = room-of _ _ _ (c .before .has-room .ensures) (c .if1 .taken) in omega (arith, r)) (λ c κs. search needs) (λ c. search needs) (λ c. let a = c .before .before .before .before .before .before .before .args in lent-put (λ k. render (number k 0 0 true) (countValue (a .c))) (λ k. count-wide k (a .c)) (a .column) (a .w) (a .line .now) (c .before .before .before .before .before .has-room .ensures) (c .before .before .before .before .if1 .taken) (c .before .before .put-count .ensures)) (λ c. let a = c .before .before .before .args in lent-not (λ k. render (number k 0 0 true) (countValue (a .c))) (λ k. count-wide k (a .c)) (a .column) (a .w) (a .line .now) (c .before .has-room .ensures) (c .if1 .left)))

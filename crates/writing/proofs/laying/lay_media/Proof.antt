@@ -2,16 +2,11 @@
 use mathlib.Core.Path.{sym, _∙_}
 use borrow.Author.Needs.{needs}
 use native.Mathlib.Omega.{arith}
-use Prim.Native.Nat.{_+_, _-_, _≤_}
-use lib.ListN.{length}
-use Rattle.writing.proofs.LayLaws.{room-fits, lent-wide, lay-put, lay-not, written-is, media-wide, media-columns}
+use Rattle.writing.proofs.LayLaws.{room-of, lent-wide, lay-put, lay-not, written-is, media-wide, media-columns}
 use Rattle.rules.specs.Items.{media}
 use Rattle.columns.specs.Types.{mediaValue}
 use Rattle.writing.proofs.laying.lay_media.Statement.{statement}
 use Rattle.writing.proofs.laying.lay_media.Tie as tie
-
-room : (c : tie.Then1) → (1 ≤ c .before .before .before .args .column) × (c .before .before .before .args .column - 1 + 10 ≤ length (c .before .before .before .args .line .now))
-room c = let a = c .before .before .before .args in room-fits (length (a .line .now)) (a .column) (10) (sym (c .before .has-room .ensures) ∙ c .if1 .taken)
 
 returns : tie.Need-returns
 returns c =
@@ -20,4 +15,4 @@ returns c =
     lay-put (a .column) (10) (a .line .now) h (c .before .before .put-media .ensures ∙ written-is media (mediaValue (a .m)) _ (lent-wide (a .column) (10) (a .line .now) h ∙ sym media-columns) (c .before .before .before .before .before .before .before .pre)) (media-wide (mediaValue (a .m)) (c .before .before .before .before .before .before .before .pre))
 
 pub lay-media-spec : {M : Type 1} → statement M
-lay-media-spec = tie.close (tie.spec (λ c κs. search needs) (λ c. omega (arith, room c)) (λ c. omega (arith, room c)) (λ c. search needs) (λ c. search needs) (λ c. omega (arith, room c)) (λ c κs. search needs) (λ c. search needs) returns (λ c. let a = c .before .before .before .args in lay-not (a .column) (10) (a .line .now) _ (sym (c .before .has-room .ensures) ∙ c .if1 .left) (media-wide (mediaValue (a .m)) (c .before .before .before .pre))))
+lay-media-spec = tie.close (tie.spec (λ c κs. search needs) (λ c. let r = room-of _ _ _ (c .before .has-room .ensures) (c .if1 .taken) in omega (arith, r)) (λ c. let r = room-of _ _ _ (c .before .has-room .ensures) (c .if1 .taken) in omega (arith, r)) (λ c. search needs) (λ c. search needs) (λ c. let r = room-of _ _ _ (c .before .has-room .ensures) (c .if1 .taken) in omega (arith, r)) (λ c κs. search needs) (λ c. search needs) returns (λ c. let a = c .before .before .before .args in lay-not (a .column) (10) (a .line .now) _ (sym (c .before .has-room .ensures) ∙ c .if1 .left) (media-wide (mediaValue (a .m)) (c .before .before .before .pre))))

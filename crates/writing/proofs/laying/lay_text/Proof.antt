@@ -2,15 +2,12 @@
 use mathlib.Core.Path.{refl, sym, _∙_}
 use borrow.Author.Needs.{needs}
 use native.Mathlib.Omega.{arith}
-use Prim.Native.Nat.{_+_, _-_, _≤_}
+use Prim.Native.Nat.{_+_, _-_}
 use lib.ListN.{length}
 use borrow.Rule.Slice.PartMut.{midOf}
-use Rattle.writing.proofs.LayLaws.{room-fits, lent-wide, lay-put, lay-not, text-is}
+use Rattle.writing.proofs.LayLaws.{room-of, lent-wide, lay-put, lay-not, text-is}
 use Rattle.writing.proofs.laying.lay_text.Statement.{statement}
 use Rattle.writing.proofs.laying.lay_text.Tie as tie
-
-room : (c : tie.Then1) → (1 ≤ c .before .before .before .before .args .column) × (c .before .before .before .before .args .column - 1 + length (c .before .before .before .before .args .t .now) ≤ length (c .before .before .before .before .args .line .now))
-room c = let a = c .before .before .before .before .args in room-fits (length (a .line .now)) (a .column) (length (a .t .now)) (sym (c .before .has-room .ensures) ∙ c .if1 .taken)
 
 returns : tie.Need-returns
 returns c =
@@ -19,4 +16,4 @@ returns c =
     lay-put (a .column) (length (a .t .now)) (a .line .now) h (c .before .before .put-text .ensures ∙ text-is (a .t .now) (midOf (a .column - 1) (a .column - 1 + length (a .t .now) - (a .column - 1)) (a .line .now)) (lent-wide (a .column) (length (a .t .now)) (a .line .now) h)) (refl)
 
 pub lay-text-spec : {M : Type 1} → statement M
-lay-text-spec = tie.close (tie.spec (λ c κs. search needs) (λ c. omega (arith, room c)) (λ c. omega (arith, room c)) (λ c. search needs) (λ c. search needs) (λ c. omega (arith, room c)) (λ c κs. search needs) (λ c. search needs) returns (λ c. let a = c .before .before .before .before .args in lay-not (a .column) (length (a .t .now)) (a .line .now) _ (sym (c .before .has-room .ensures) ∙ c .if1 .left) (refl)))
+lay-text-spec = tie.close (tie.spec (λ c κs. search needs) (λ c. let r = room-of _ _ _ (c .before .has-room .ensures) (c .if1 .taken) in omega (arith, r)) (λ c. let r = room-of _ _ _ (c .before .has-room .ensures) (c .if1 .taken) in omega (arith, r)) (λ c. search needs) (λ c. search needs) (λ c. let r = room-of _ _ _ (c .before .has-room .ensures) (c .if1 .taken) in omega (arith, r)) (λ c κs. search needs) (λ c. search needs) returns (λ c. let a = c .before .before .before .before .args in lay-not (a .column) (length (a .t .now)) (a .line .now) _ (sym (c .before .has-room .ensures) ∙ c .if1 .left) (refl)))

@@ -18,7 +18,7 @@ unfolding layFields heightColumns heightValue valuesOf render onNumber onText on
 returns c =
     let a = c .before .before .before .before .before .before .before .before .before .before .before .before .before .before .before .before .before .before .before .before .before .before .before .before .before .before .args in
     let height-back : toZ w32 (ofZ w32 (a .m .height)) ≡ a .m .height = search needs in
-    rw (c .before .before .lay-blank2 .ensures, c .before .before .before .before .before .before .lay-height .ensures ∙ ap (λ z. lay 56 (render (height 5 false) (num z)) (c .before .before .before .before .before .before .before .before .before .before .before .lay-blank .last .0)) height-back, c .before .before .before .before .before .before .before .before .before .before .before .lay-blank .ensures, c .before .before .before .before .before .before .before .before .before .before .before .before .before .before .before .lay-number3 .ensures, c .before .before .before .before .before .before .before .before .before .before .before .before .before .before .before .before .before .before .before .lay-number2 .ensures, c .before .before .before .before .before .before .before .before .before .before .before .before .before .before .before .before .before .before .before .before .before .before .before .lay-number .ensures)
+    rw (c .before .before .lay-blank2 .ensures, c .before .before .before .before .before .before .lay-height .ensures ∙ ap (λ z. lay 56 (render (height 5 9_999 99_999 false) (num z)) (c .before .before .before .before .before .before .before .before .before .before .before .lay-blank .last .0)) height-back, c .before .before .before .before .before .before .before .before .before .before .before .lay-blank .ensures, c .before .before .before .before .before .before .before .before .before .before .before .before .before .before .before .lay-number3 .ensures, c .before .before .before .before .before .before .before .before .before .before .before .before .before .before .before .before .before .before .before .lay-number2 .ensures, c .before .before .before .before .before .before .before .before .before .before .before .before .before .before .before .before .before .before .before .before .before .before .before .lay-number .ensures)
 
 pub lay-measurement-spec : {M : Type 1} → statement M
 lay-measurement-spec = tie.close (tie.spec (λ c κs. search needs) (λ c κs. search needs) (λ c κs. search needs) (λ c κs. search needs) (λ c κs. search needs) (λ c κs. search needs) (λ c. search needs) returns)

@@ -18,7 +18,7 @@ unfolding measurementTests form heightValue
 returns c =
     let a = c .before .before .before .before .before .args in
     let height-back : toZ w32 (ofZ w32 (a .m .height)) ≡ a .m .height = search needs in
-    rw (c .judge-height .ensures ∙ ap (λ z. afterOf (c .before .before .judge-count3 .result) (check (fits (height 5 false) (num z)) 9 56)) height-back, c .before .before .judge-count3 .ensures, c .before .before .before .judge-count2 .ensures, c .before .before .before .before .judge-count .ensures)
+    rw (c .judge-height .ensures ∙ ap (λ z. afterOf (c .before .before .judge-count3 .result) (check (fits (height 5 9_999 99_999 false) (num z)) 9 56)) height-back, c .before .before .judge-count3 .ensures, c .before .before .before .judge-count2 .ensures, c .before .before .before .before .judge-count .ensures)
     (after-chain (a .j) (measurementTests (a .m)) ∙ ap (afterOf (a .j)) (sym (measurement-chain (a .m))))
 
 pub judge-measurement-spec : {M : Type 1} → statement M

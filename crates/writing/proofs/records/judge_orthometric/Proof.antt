@@ -1,9 +1,9 @@
 -- Field after field from the left: the first fault stays.
 use mathlib.Core.Path.{sym, ap, _∙_}
+use mathlib.Core.List.{[]}
 use borrow.Author.Needs.{needs}
 use Rattle.writing.proofs.JudgeLaws.{after-chain}
 use Rattle.writing.proofs.KindLaws.{form, tie, wordOf, orthometricTests, orthometric-chain}
-use mathlib.Core.List.{[]}
 use Rattle.writing.specs.Judging.{afterOf}
 use Rattle.writing.proofs.records.judge_orthometric.Statement.{statement}
 use Rattle.writing.proofs.records.judge_orthometric.Tie as tie
@@ -12,7 +12,7 @@ returns : tie.Need-returns
 unfolding orthometricTests form tie wordOf
 returns c =
     let a = c .before .before .before .before .before .before .before .before .args in
-    rw (c .judge-printable .ensures, c .before .judge-pair2 .ensures, c .before .before .judge-tied2 .ensures, c .before .before .before .judge-pair .ensures, c .before .before .before .before .judge-tied .ensures, c .before .before .before .before .before .judge-height .ensures, c .before .before .before .before .before .before .judge-count .ensures)
+    rw (c .judge-printable .ensures, c .before .judge-pair2 .ensures, c .before .before .judge-tied2 .ensures, c .before .before .before .judge-pair .ensures, c .before .before .before .before .judge-tied .ensures, c .before .before .before .before .before .judge-metres .ensures, c .before .before .before .before .before .before .judge-count .ensures)
     (after-chain (a .j) (orthometricTests (a .h) (a .a .now) []) ∙ ap (afterOf (a .j)) (sym (orthometric-chain (a .h) (a .a .now) [])))
 
 pub judge-orthometric-spec : {M : Type 1} → statement M

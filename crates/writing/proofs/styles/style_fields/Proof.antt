@@ -23,7 +23,16 @@ returns-6 : tie.Need-returns-6
 returns-6 c = rw (c .before .before .before .before .match .keys6) (c .before .before .style-heights .ensures)
 
 returns-7 : tie.Need-returns-7
-returns-7 c = search (rest-stays, needs)
+returns-7 c = rw (c .before .before .before .before .match .keys7) (c .before .before .style-network .ensures)
+
+returns-8 : tie.Need-returns-8
+returns-8 c = rw (c .before .before .before .before .match .keys8) (c .before .before .style-local .ensures)
+
+returns-9 : tie.Need-returns-9
+returns-9 c = rw (c .before .before .before .before .match .keys9) (c .before .before .style-factor .ensures)
+
+returns-10 : tie.Need-returns-10
+returns-10 c = search (rest-stays, needs)
 
 pub style-fields-spec : {M : Type 1} → statement M
-style-fields-spec = tie.close (tie.spec (λ c κs. search needs) (λ c κs. search needs) (λ c κs. search needs) (λ c κs. search needs) (λ c κs. search needs) (λ c κs. search needs) (λ c. search needs) returns (λ c. search needs) returns-2 (λ c. search needs) returns-3 (λ c. search needs) returns-4 (λ c. search needs) returns-5 (λ c. search needs) returns-6 returns-7)
+style-fields-spec = tie.close (tie.spec (λ c κs. search needs) (λ c κs. search needs) (λ c κs. search needs) (λ c κs. search needs) (λ c κs. search needs) (λ c κs. search needs) (λ c κs. search needs) (λ c κs. search needs) (λ c κs. search needs) (λ c. search needs) returns (λ c. search needs) returns-2 (λ c. search needs) returns-3 (λ c. search needs) returns-4 (λ c. search needs) returns-5 (λ c. search needs) returns-6 (λ c. search needs) returns-7 (λ c. search needs) returns-8 (λ c. search needs) returns-9 returns-10)

@@ -4,8 +4,8 @@ use mir.ValLaws.{toZ-pos}
 use Rattle.columns.proofs.Signed.{minus-fits, minus-back}
 use Rattle.rules.specs.Items.{signed}
 use borrow.Author.Needs.{needs}
-use Rattle.export.proofs.given.sign_millimetres.Statement.{statement}
-use Rattle.export.proofs.given.sign_millimetres.Tie as tie
+use Rattle.export.proofs.given.give_sign.Statement.{statement}
+use Rattle.export.proofs.given.give_sign.Tie as tie
 
 sub-result : tie.Need-sub-result
 sub-result c = minus-fits w32 _ (c .before .pre)
@@ -16,5 +16,5 @@ returns c = rw (c .if1 .taken) (unfold signed in minus-back w32 _ (c .before .pr
 returns-2 : tie.Need-returns-2
 returns-2 c = rw (c .if1 .left) (unfold signed in toZ-pos w32 _ (c .before .pre))
 
-pub sign-millimetres-spec : {M : Type 1} → statement M
-sign-millimetres-spec = tie.close (tie.spec (λ c. search needs) sub-result (λ c. search needs) returns returns-2)
+pub give-sign-spec : {M : Type 1} → statement M
+give-sign-spec = tie.close (tie.spec (λ c. search needs) sub-result (λ c. search needs) returns returns-2)

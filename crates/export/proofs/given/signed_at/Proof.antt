@@ -1,7 +1,7 @@
 use Rattle.export.proofs.GivenLaws.{millimetres-fit, millimetres-large, depths-fit, depths-large}
 use borrow.Author.Needs.{needs}
-use Rattle.export.proofs.given.millimetres_at.Statement.{statement}
-use Rattle.export.proofs.given.millimetres_at.Tie as tie
+use Rattle.export.proofs.given.signed_at.Statement.{statement}
+use Rattle.export.proofs.given.signed_at.Tie as tie
 
 returns : tie.Need-returns
 returns c = search (millimetres-fit, needs)
@@ -15,8 +15,8 @@ returns-3 c = search (depths-fit, needs)
 returns-4 : tie.Need-returns-4
 returns-4 c = search (depths-large, needs)
 
-pub millimetres-at-spec : {M : Type 1} → statement M
-millimetres-at-spec =
+pub signed-at-spec : {M : Type 1} → statement M
+signed-at-spec =
     tie.close
     (tie.spec
     (λ c κs. search needs)
