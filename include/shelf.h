@@ -43,9 +43,9 @@ extern "C" {
  * answer: number, record, column, then the fourteen counts in the order of
  * the kinds, all 0 on a refusal.
  * table: on acceptance word n is the record number of station n's *80*, word
- * 10,000 + n of instrument n's *70*, word 11,000 + n of antenna n's *72*, 0
- * where there is none. A table below 12,000 words is fault 1 and is not
- * touched; every other refusal puts 0 into its first 12,000 words. Words
+ * 10,000 + n of instrument n's first *70*, word 11,000 + n of antenna n's
+ * *72*, 0 where there is none. A table below 12,000 words is fault 1 and is
+ * not touched; every other refusal puts 0 into its first 12,000 words. Words
  * beyond those stay. */
 void shelf_check(const uint8_t *file, size_t len,
                  uint32_t *table, size_t words,

@@ -58,6 +58,7 @@ struct Plan {
     title_more: bool,
     /// For each group its comments, and whether it has a third measurement.
     groups: Vec<(usize, bool)>,
+    /// *70* records; their numbers may repeat.
     instruments: usize,
     antennas: usize,
     points: usize,
@@ -187,6 +188,7 @@ fn planned(dice: &mut Dice, plan: &Plan) -> Vec<u8> {
     let stations = some_of(dice, plan.points, 9_999);
     let mut instruments = some_of(dice, plan.instruments, 999);
     instruments.sort_unstable();
+    repeat_some(dice, &mut instruments);
     let mut antennas = some_of(dice, plan.antennas, 999);
     antennas.sort_unstable();
     let job = [dice.pick(UPPER), dice.pick(UPPER_OR_DIGIT)];
@@ -255,6 +257,19 @@ fn some_of(dice: &mut Dice, count: usize, most: i64) -> Vec<i64> {
     }
     numbers.truncate(count);
     numbers
+}
+
+/// Makes some of these numbers the one before: in one file none, in another
+/// all, mostly runs of two or three. The dice are its own, so that no other
+/// column depends on what repeats.
+fn repeat_some(dice: &Dice, numbers: &mut [i64]) {
+    let mut dice = Dice::new(!dice.state);
+    let quarters = dice.pick(&[0, 1, 1, 2, 2, 3, 4]);
+    for at in 1..numbers.len() {
+        if dice.below(4) < quarters {
+            numbers[at] = numbers[at - 1];
+        }
+    }
 }
 
 /// A blank line with this code and some sequence number, put at the end of
@@ -568,7 +583,8 @@ pub enum Damage {
     Undefined,
     /// A point that takes another's number, or is there twice.
     Repeated,
-    /// A *27*, *70*, *72* or *86* whose number disagrees with an earlier one.
+    /// A *27*, *70*, *72* or *86* whose number disagrees with an earlier one;
+    /// of a *70* only one that falls does.
     Disagreeing,
     /// A *12* whose months are exchanged, a height's code put or taken, or a
     /// *92* of one station.
@@ -863,16 +879,45 @@ fn disagreeing(dice: &mut Dice, file: &mut [u8]) {
     if records.is_empty() {
         return;
     }
+    if kind == layout::INSTRUMENT {
+        return falling(dice, file, &records);
+    }
     let start = dice.pick(&records);
-    if kind == layout::MEASUREMENT || kind == layout::HEIGHTS {
-        let station = dice.between(1, 9_999);
-        put_number(dice, &mut file[start..start + LINE], 11, 4, station);
-    } else {
+    if kind == layout::ANTENNA {
         // Another's number: repeated, or falling.
         let from = dice.pick(&records);
         let number = file[from + 10..from + 13].to_vec();
         put(&mut file[start..], 11, &number);
+    } else {
+        let station = dice.between(1, 9_999);
+        put_number(dice, &mut file[start..start + LINE], 11, 4, station);
     }
+}
+
+/// Puts one of the *70* that start here below the one before it, by one or by
+/// more. The first has none before it, and no number is below 1.
+fn falling(dice: &mut Dice, file: &mut [u8], starts: &[usize]) {
+    if starts.len() < 2 {
+        return;
+    }
+    let at = 1 + dice.below(starts.len() - 1);
+    let before = number_at(&file[starts[at - 1]..], 11, 3);
+    if before < 2 {
+        return;
+    }
+    let number = match dice.below(2) {
+        0 => before - 1,
+        _ => dice.between(1, before - 1),
+    };
+    let line = &mut file[starts[at]..starts[at] + LINE];
+    put_number(dice, line, 11, 3, number);
+}
+
+/// The number in some columns of a line, blanks before it or not; 0 if they
+/// hold none.
+fn number_at(line: &[u8], first: usize, width: usize) -> i64 {
+    let held = String::from_utf8_lossy(&line[first - 1..first - 1 + width]);
+    held.trim_start().parse().unwrap_or(0)
 }
 
 fn disagreeing_fields(dice: &mut Dice, file: &mut [u8]) {
@@ -889,9 +934,8 @@ fn disagreeing_fields(dice: &mut Dice, file: &mut [u8]) {
             }
         }
         Some(layout::LOCAL) => {
-            // Blanks before it or not, it is the same station.
-            let station = String::from_utf8_lossy(&line[10..14]).trim_start().parse();
-            put_number(dice, line, 17, 4, station.unwrap_or(0));
+            let station = number_at(line, 11, 4);
+            put_number(dice, line, 17, 4, station);
         }
         _ => {
             let column = dice.pick(&[24, 27, 43, 53]);

@@ -25,7 +25,7 @@ pub use words::Plain;
 
 /// Words of the station table that belong to the shelf.
 pub const TABLE_WORDS: usize = 12_000;
-/// Word 10,000 + n is for instrument n.
+/// Word 10,000 + n is for instrument n, whose first *70* it holds.
 pub const FIRST_INSTRUMENT_WORD: usize = 10_000;
 /// Word 11,000 + n is for antenna n.
 pub const FIRST_ANTENNA_WORD: usize = 11_000;

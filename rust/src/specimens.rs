@@ -8,6 +8,7 @@ mod accepted;
 mod accuracies;
 mod changed;
 mod inputs;
+mod receivers;
 mod refused;
 mod survey;
 
@@ -31,6 +32,7 @@ pub fn specimens() -> Vec<Specimen> {
     let mut refused = refused::specimens();
     refused.extend(changed::specimens());
     refused.extend(accuracies::refused());
+    refused.extend(receivers::refused());
     refused.sort_by_key(|one| one.name);
     all.extend(refused);
     all
@@ -82,7 +84,7 @@ pub fn page(all: &[Specimen], inputs: &[Input]) -> String {
 const HEAD: &str = "\
 # The files tried
 
-Each is a whole B-file. The verdict is the rule paper's, the column of a fault 9 the request's, found by hand; `rust/tests/paper/files_tried.rs` holds this table against the plain implementation, and the program prints the verdicts of the proved calls in the same order. Most are changes of one small file of 13 records: job code, *10*, *12*, *25*, two *27*, two *70*, two *72*, *80*, *86*, job code. Those about accuracies are changes of the same with a second station: behind its *86* come an *80* and *86* (records 13 and 14), two *91* (15 and 16), a *92* (17), a *93* (18) and the job code (19).
+Each is a whole B-file. The verdict is that of the rule paper and the requests after it, found by hand; `rust/tests/paper/files_tried.rs` holds this table against the plain implementation, and the program prints the verdicts of the proved calls in the same order. Most are changes of one small file of 13 records: job code, *10*, *12*, *25*, two *27*, two *70*, two *72*, *80*, *86*, job code. Those about accuracies are changes of the same with a second station: behind its *86* come an *80* and *86* (records 13 and 14), two *91* (15 and 16), a *92* (17), a *93* (18) and the job code (19).
 
 Fault 1 is tried on an accepted and on a refused one of these, with a table of 11,999 words and with an output of one byte less than the file. Fault 2 would take a file of 8 MB.
 

@@ -45,6 +45,10 @@ module _ (n : ℕ) where
   unfolding meets expectOf _=?_
   met-same k e j z = rw (e, z)
 
+  pub met-not-below : {e : code.Expect} (k : ℕ) → e ≡ X.NotBelow k → (j : ℕ) → j ≡ k → leb j n ≡ meets (expectOf e) n
+  unfolding meets expectOf _≤?_
+  met-not-below k e j z = rw (e, z)
+
   pub met-above : {e : code.Expect} (k : ℕ) → e ≡ X.Above k → (j : ℕ) → j ≡ k → leb (j + 1) n ≡ meets (expectOf e) n
   unfolding meets expectOf _≤?_
   met-above k e j z = rw (e, z)

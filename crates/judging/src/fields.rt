@@ -125,6 +125,7 @@ pub fn is_met(e: Expect, n: u64) -> bool
     match e {
         Expect::Anything => true,
         Expect::Same(k) => n == long(k),
+        Expect::NotBelow(k) => long(k) <= n,
         Expect::Above(k) => long(k) + 1 <= n,
     }
 }

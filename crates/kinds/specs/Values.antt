@@ -183,4 +183,5 @@ judgedOf (fault n c) = Judged.Bad n c
 unfoldable pub expectOf : Expect → fields.Expect
 expectOf Expect.Anything = fields.anything
 expectOf (Expect.Same n) = fields.same n
+expectOf (Expect.NotBelow n) = fields.notBelow n
 expectOf (Expect.Above n) = fields.above n

@@ -761,5 +761,6 @@ pub enum Judged {
 pub enum Expect {
     Anything,
     Same(u32),
+    NotBelow(u32),
     Above(u32),
 }

@@ -1,8 +1,8 @@
 -- The kinds: one computed test of every row of the tables says what the laws ask, and a line which fits has no fault.
 use mathlib.Core.Path.{_≡_, refl, sym, ap, _∙_, subst}
 use mathlib.Core.Bool.{Bool, true, _&&_, _||_, false≢true}
-use mathlib.Core.List.{List, [], _∷_, map}
-use Prim.Native.Nat.{ℕ, zero, suc, _≤_, _<_}
+use mathlib.Core.List.{List, [], _∷_}
+use Prim.Native.Nat.{ℕ, _≤_, _<_}
 use native.Mathlib.Omega.{arith}
 use lib.Dec.{leb, eqb}
 use lib.ListN.{length, getD, take, replicate}
@@ -11,7 +11,7 @@ use borrow.Author.Tests.{leb-true, eqb-true}
 use Rattle.rules.specs.Tests.{_&_, _≤?_, _=?_, within, all}
 use Rattle.rules.specs.Characters.{isDigit, isPrintable}
 use Rattle.rules.specs.Fields.{Expect, isOk}
-use Rattle.rules.proofs.Truth.{both, and, to≤, to≡, of-within, all-at, both-true}
+use Rattle.rules.proofs.Truth.{both, and, to≤, to≡, of-within, all-at, map-at, both-true}
 use Rattle.rules.proofs.Conforming.{bytes-of}
 use Rattle.kinds.specs.Tables.{Row, rowLists}
 use Rattle.judging.proofs.RowLaws.{rows-judge}
@@ -51,11 +51,6 @@ tidy rs = length (kindRow rs) =? 80 & all fair (kindRow rs) & laid (kindRow rs) 
 all-tidy : all tidy rowLists ≡ true
 unfolding tidy all fair laid asked bound height counted sameRow sameClass admits even inClass isDigit within _&_ _≤?_ _=?_
 all-tidy = refl
-
-map-at : {A : Type 0} {B : Type 0} (f : A → B) (l : List A) (d : A) (e : B) (k : ℕ) → k < length l → getD (map f l) k e ≡ f (getD l k d)
-map-at f [] d e k i = absurd (omega arith)
-map-at f (x ∷ xs) d e zero i = refl
-map-at f (x ∷ xs) d e (suc k) i = map-at f xs d e k (omega arith)
 
 -- the row of a kind
 abbrev rowFor : ℕ → List Class

@@ -10,7 +10,7 @@ use lib.Seq.{take-length}
 use Rattle.rules.specs.Tests.{all, _&_, _≤?_, _=?_}
 use Rattle.rules.specs.Characters.{isPrintable, anyOf}
 use Rattle.rules.specs.Items.{valueOf, good}
-use Rattle.rules.specs.Fields.{expected, Field, Expect, anything, same, above, check, isOk, columnsOf, read, isFormed, formed, meets, agreeing, numOf}
+use Rattle.rules.specs.Fields.{expected, Field, Expect, anything, same, notBelow, above, check, isOk, columnsOf, read, isFormed, formed, meets, agreeing, numOf}
 use Rattle.rules.specs.Records.{Edition, sequence, bytes, codeAt, entries, meaning, formedLine, permitted}
 use Rattle.rules.specs.Files.{lineAt, begun, lines, meanings, passed, accepted, formedLines, orderly}
 use Rattle.rules.specs.Faults.{before}
@@ -29,7 +29,7 @@ use Rattle.rules.proofs.RecordLaws.{bytes-length, agreeing-line}
 use Rattle.rules.proofs.FileLaws.{accepted-splits, accepted-parts, records, length-take-most, line-at}
 use Rattle.rules.proofs.ReferenceLaws.{references-iff}
 use Rattle.rules.proofs.Chapter4Laws.{order-is-the-table}
-use Rattle.rules.proofs.Keeping.{kept-same, same-kept, above-kept, group-is, point-is, instrument-is, antenna-is, instrument-top, antenna-top, Placed, at-start, place-one, placed, job-is}
+use Rattle.rules.proofs.Keeping.{kept-same, same-kept, past-kept, group-is, point-is, instrument-is, antenna-is, instrument-top, antenna-top, Placed, at-start, place-one, placed, job-is}
 use Rattle.rules.proofs.AgreeLaws.{waiting-kinds, lead-of, all-map, agreeing-each, each-agreeing, met, waits-met, number-from-1}
 
 -- ---- bytes
@@ -111,7 +111,7 @@ module _ (s : Past) (c : List ℕ) where
   unfolding expectation _=?_
   expects-86 e = rw e
 
-  expects-70 : kindOf c ≡ *70* → expectation s c ≡ above (s .instrument)
+  expects-70 : kindOf c ≡ *70* → expectation s c ≡ notBelow (s .instrument)
   unfolding expectation _=?_
   expects-70 e = rw e
 
@@ -156,6 +156,14 @@ module _ (e : Expect) (k m : ℕ) where
   same-met : e ≡ same k → m ≡ k → meets e m ≡ true
   unfolding meets
   same-met q h = rw q (of≡ h)
+
+  met-not-below : e ≡ notBelow k → meets e m ≡ true → k ≤ m
+  unfolding meets
+  met-not-below q h = to≤ (rw q at h)
+
+  not-below-met : e ≡ notBelow k → k ≤ m → meets e m ≡ true
+  unfolding meets
+  not-below-met q h = rw q (of≤ h)
 
   met-above : e ≡ above k → meets e m ≡ true → k + 1 ≤ m
   unfolding meets
@@ -211,15 +219,17 @@ module _ (f : List ℕ) (n : ℕ) (many : n ≤ begun f) (form : (x : ℕ) → x
         let m = met-here i h (waits-86 f i e) in
         kept-same f *80* *80* (before chapter4 f i .point) i _ (point-is f i (omega arith)) (from-1 i h (waits-86 f i e)) (met-same _ _ _ (expects-86 (before chapter4 f i) _ (kind-is f i e)) m)
 
-    above-70 : kindAt f i ≡ *70* → before chapter4 f i .instrument + 1 ≤ numberAt 11 (recordAt f i)
-    above-70 e = met-above _ _ _ (expects-70 (before chapter4 f i) _ (kind-is f i e)) (met-here i h (waits-70 f i e))
+    not-below-70 : kindAt f i ≡ *70* → before chapter4 f i .instrument ≤ numberAt 11 (recordAt f i)
+    not-below-70 e = met-not-below _ _ _ (expects-70 (before chapter4 f i) _ (kind-is f i e)) (met-here i h (waits-70 f i e))
 
     above-72 : kindAt f i ≡ *72* → before chapter4 f i .antenna + 1 ≤ numberAt 11 (recordAt f i)
     above-72 e = met-above _ _ _ (expects-72 (before chapter4 f i) _ (kind-is f i e)) (met-here i h (waits-72 f i e))
 
-  rises-here : (i : ℕ) → i < n → (kindAt f i ≡ *70*) ⊎ (kindAt f i ≡ *72*) → (j : ℕ) → j < i → kindAt f j ≡ kindAt f i → numberAt 11 (recordAt f j) < numberAt 11 (recordAt f i)
-  rises-here i h (inl e) j b q = omega (arith, above-70 i h e, instrument-top f i (omega arith) (λ x k y. above-70 x (omega arith) y) j b (q ∙ e))
-  rises-here i h (inr e) j b q = omega (arith, above-72 i h e, antenna-top f i (omega arith) (λ x k y. above-72 x (omega arith) y) j b (q ∙ e))
+  never-falls-here : (i : ℕ) → i < n → kindAt f i ≡ *70* → (j : ℕ) → j < i → kindAt f j ≡ *70* → numberAt 11 (recordAt f j) ≤ numberAt 11 (recordAt f i)
+  never-falls-here i h e j b q = omega (arith, not-below-70 i h e, instrument-top f i (omega arith) (λ x k y. not-below-70 x (omega arith) y) j b q)
+
+  rises-here : (i : ℕ) → i < n → kindAt f i ≡ *72* → (j : ℕ) → j < i → kindAt f j ≡ *72* → numberAt 11 (recordAt f j) < numberAt 11 (recordAt f i)
+  rises-here i h e j b q = omega (arith, above-72 i h e, antenna-top f i (omega arith) (λ x k y. omega (arith, above-72 x (omega arith) y)) j b q)
 
   job-here : (i : ℕ) → i < n → kindAt f i ≡ *AA* → (i ≡ 0) ⊎ (codeAt (lineAt f i) ≡ codeAt (lineAt f 0))
   job-here zero h e = inl refl
@@ -246,6 +256,7 @@ module _ (f : List ℕ) (n : ℕ) (many : n ≤ begun f) (form : (x : ℕ) → x
         its-fields = λ d m. (valueOf (d .item) (columnsOf d l), spelled-iff (d .item) (columnsOf d l) _ .0 (field-good l (formed-here i h) d m, refl), unfold recordAt in agreeing-each _ l (agreeing-here i h) d m);
         measured = measured-here i h;
         paired = paired-here i h;
+        never-falls = never-falls-here i h;
         rises = rises-here i h;
       }
     where
@@ -304,13 +315,13 @@ module _ (f : List ℕ) (i : ℕ) (t : Stands f i) where
 
     asked-70 : kindAt f i ≡ *70* → meets (expectation (before chapter4 f i) (codeAt (lineAt f i))) (numberAt 11 (recordAt f i)) ≡ true
     asked-70 e =
-        above-met _ _ _ (expects-70 (before chapter4 f i) _ (kind-is f i e))
-        (above-kept f *70* *70* _ i _ (instrument-is f i (omega arith)) (from-1-here (waits-70 f i e)) (λ j b q. t .rises (inl e) j b (q ∙ sym e)))
+        let past : before chapter4 f i .instrument + 0 ≤ numberAt 11 (recordAt f i) = past-kept f *70* *70* _ i _ 0 (instrument-is f i (omega arith)) (omega arith) (λ j b q. omega (arith, t .never-falls e j b q)) in
+        not-below-met _ _ _ (expects-70 (before chapter4 f i) _ (kind-is f i e)) (omega arith)
 
     asked-72 : kindAt f i ≡ *72* → meets (expectation (before chapter4 f i) (codeAt (lineAt f i))) (numberAt 11 (recordAt f i)) ≡ true
     asked-72 e =
         above-met _ _ _ (expects-72 (before chapter4 f i) _ (kind-is f i e))
-        (above-kept f *72* *72* _ i _ (antenna-is f i (omega arith)) (from-1-here (waits-72 f i e)) (λ j b q. t .rises (inr e) j b (q ∙ sym e)))
+        (past-kept f *72* *72* _ i _ 1 (antenna-is f i (omega arith)) (from-1-here (waits-72 f i e)) (λ j b q. omega (arith, t .rises e j b q)))
 
     waits-here : kindAt f i ∈ waiting-kinds → meets (expectation (before chapter4 f i) (codeAt (lineAt f i))) (numberAt 11 (recordAt f i)) ≡ true
         → (d : Field) → d ∈ layout (codeAt (lineAt f i)) → d .bond ≡ expected → meets (expectation (before chapter4 f i) (codeAt (lineAt f i))) (numOf (valueOf (d .item) (columnsOf d (lineAt f i)))) ≡ true

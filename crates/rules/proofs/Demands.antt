@@ -13,10 +13,12 @@ use Rattle.rules.specs.Calls.{outcome}
 use Rattle.rules.specs.Chapter4.{chapter4}
 use Rattle.rules.specs.Demands.{Demand2, Demand3, Tells}
 use Rattle.rules.proofs.FileLaws.{keeps-accepted, keeps-meaning, keeps-codes, keeps-records, keeps-length, settled, numbered-anew, same-style-same-meaning, accepted-meant}
-use Rattle.rules.proofs.ReferenceLaws.{word-in}
-use Rattle.rules.proofs.TableLaws.{filled-is-words, count-at, counts-sum}
+use Rattle.rules.proofs.ReferenceLaws.{word-in, word-first}
+use Rattle.rules.proofs.TableLaws.{tabled, filled-is-words, count-at, counts-sum}
 use Rattle.rules.proofs.FileFaults.{one-first, none-iff, first-verdict, first-outcome}
 use Rattle.rules.proofs.Chapter4Laws.{sound, sound-refs}
+use Rattle.rules.proofs.Conforming.{accepted-conforms}
+use Rattle.rules.proofs.InstrumentLaws.{together}
 
 -- the first fault
 pub first-fault : (enough : Bool) (f : List ℕ) → FirstOf (CallFaults chapter4 enough f) (outcome enough f)
@@ -63,4 +65,7 @@ counts-and-words f h =
       none-passed-over = counts-sum ms meant ∙ (unfold meanings in length-map (lines f) (meaning chapter4));
       word = word-in ms;
       as-filled = filled-is-words ms meant;
+      first = word-first ms;
+      tabled = λ F i. tabled F i ms meant;
+      together = together f (accepted-conforms f .0 h);
     }

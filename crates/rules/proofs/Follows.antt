@@ -129,12 +129,21 @@ pub same-station :
 unfolding failed
 same-station = refl
 
--- *70* records rise strictly by instrument number, *72* by antenna number
-pub strictly-rising :
+-- *70* records never fall by instrument number, and may repeat it
+pub never-falling :
     failed (
     case groups *70* 11 "001" ok ∷ case groups *70* 11 "999" ok
-    ∷ case (groups ++ *70* ∷ []) *70* 11 "009" (fault 10 11) ∷ case (groups ++ *70* ∷ []) *70* 11 "010" (fault 10 11) ∷ case (groups ++ *70* ∷ []) *70* 11 "011" ok
-    ∷ case (groups ++ *70* ∷ []) *72* 11 "001" ok ∷ case (groups ++ *70* ∷ []) *72* 11 "999" ok
+    ∷ case (groups ++ *70* ∷ []) *70* 11 "001" (fault 10 11) ∷ case (groups ++ *70* ∷ []) *70* 11 "009" (fault 10 11)
+    ∷ case (groups ++ *70* ∷ []) *70* 11 "010" ok ∷ case (groups ++ *70* ∷ []) *70* 11 " 10" ok ∷ case (groups ++ *70* ∷ []) *70* 11 "011" ok
+    ∷ case (groups ++ *70* ∷ *70* ∷ []) *70* 11 "009" (fault 10 11) ∷ case (groups ++ *70* ∷ *70* ∷ []) *70* 11 "010" ok ∷ [])
+    ≡ []
+unfolding failed
+never-falling = refl
+
+-- *72* records rise strictly by antenna number
+pub strictly-rising :
+    failed (
+    case (groups ++ *70* ∷ []) *72* 11 "001" ok ∷ case (groups ++ *70* ∷ []) *72* 11 "999" ok
     ∷ case defined *72* 11 "004" (fault 10 11) ∷ case defined *72* 11 "005" (fault 10 11) ∷ case defined *72* 11 "006" ok ∷ [])
     ≡ []
 unfolding failed

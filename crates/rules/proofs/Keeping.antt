@@ -115,24 +115,25 @@ module _ (f : List ℕ) (k h : ℕ) where
     same-kept (inl x) j near e = absurd (x .1 j near)
     same-kept (inr x) j near e = e ∙ ap (λ y. numberAt 11 (recordAt f y)) (nearest-one i j (x .0) near (x .1)) ∙ sym (x .2)
 
-    pub above-kept : Kept n i → 1 ≤ m → ((j : ℕ) → j < i → kindAt f j ≡ k → numberAt 11 (recordAt f j) < m) → n + 1 ≤ m
+    -- by how much it is past each record of kind k, it is past the number that is kept
+    pub past-kept : (by : ℕ) → Kept n i → by ≤ m → ((j : ℕ) → j < i → kindAt f j ≡ k → numberAt 11 (recordAt f j) + by ≤ m) → n + by ≤ m
     unfolding Kept
-    above-kept (inl x) p r = omega (arith, x .0)
-    above-kept (inr x) p r = omega (arith, x .2, r (x .0) (x .1 .before) (x .1 .its-kind))
+    past-kept by (inl x) p r = omega (arith, x .0)
+    past-kept by (inr x) p r = omega (arith, x .2, r (x .0) (x .1 .before) (x .1 .its-kind))
 
--- where each record of kind k is above the number that was kept, none before is above the one that is kept
+-- where no record of kind k is below the number that was kept, none before is above the one that is kept
 module _ (f : List ℕ) (k : ℕ) (keep : Past → ℕ)
     (sets : (s : Past) (m : Meaning) → isA k m ≡ true → keep (after order s m) ≡ numberAt 11 m)
     (stays : (s : Past) (m : Meaning) → isA k m ≡ false → keep (after order s m) ≡ keep s)
     (n : ℕ) (many : n ≤ begun f)
-    (rise : (x : ℕ) → x < n → kindAt f x ≡ k → keep (before chapter4 f x) + 1 ≤ numberAt 11 (recordAt f x)) where
+    (no-fall : (x : ℕ) → x < n → kindAt f x ≡ k → keep (before chapter4 f x) ≤ numberAt 11 (recordAt f x)) where
   top : (i : ℕ) → i ≤ n → (j : ℕ) → j < i → kindAt f j ≡ k → numberAt 11 (recordAt f j) ≤ keep (before chapter4 f i)
   top zero l j b e = absurd (omega arith)
   top (suc i) l j b e =
       let q : keep (before chapter4 f (suc i)) ≡ keep (after order (before chapter4 f i) (recordAt f i)) = ap keep (before-next f i (omega arith)) in
       cases (kindAt f i =? k)
       (λ a. let r : keep (before chapter4 f (suc i)) ≡ numberAt 11 (recordAt f i) = q ∙ sets _ _ (its-kind f i k ∙ a) in
-      either (λ y. omega (arith, r, top i (omega arith) j y e, rise i l (to≡ a))) (λ y. omega (arith, r, ap (λ z. numberAt 11 (recordAt f z)) y)) (below-or-equal j i (omega arith)))
+      either (λ y. omega (arith, r, top i (omega arith) j y e, no-fall i l (to≡ a))) (λ y. omega (arith, r, ap (λ z. numberAt 11 (recordAt f z)) y)) (below-or-equal j i (omega arith)))
       (λ a. let r : keep (before chapter4 f (suc i)) ≡ keep (before chapter4 f i) = q ∙ stays _ _ (its-kind f i k ∙ a) in
       either (λ y. omega (arith, r, top i (omega arith) j y e)) (λ y. absurd (no≡ a (ap (kindAt f) (sym y) ∙ e))) (below-or-equal j i (omega arith)))
 
@@ -184,13 +185,13 @@ module _ (f : List ℕ) (i : ℕ) (l : i ≤ begun f) where
   pub antenna-is : Kept f *72* *72* (before chapter4 f i .antenna) i
   antenna-is = kept f *72* *72* (λ s. s .antenna) (unfold atStart in refl) sets-72 (λ s m a b. impossible *72* m a b) (λ s m a b. stays-72 s m a) i l
 
-pub instrument-top : (f : List ℕ) (n : ℕ) → n ≤ begun f → ((x : ℕ) → x < n → kindAt f x ≡ *70* → before chapter4 f x .instrument + 1 ≤ numberAt 11 (recordAt f x))
+pub instrument-top : (f : List ℕ) (n : ℕ) → n ≤ begun f → ((x : ℕ) → x < n → kindAt f x ≡ *70* → before chapter4 f x .instrument ≤ numberAt 11 (recordAt f x))
     → (j : ℕ) → j < n → kindAt f j ≡ *70* → numberAt 11 (recordAt f j) ≤ before chapter4 f n .instrument
-instrument-top f n many rise = top f *70* (λ s. s .instrument) sets-70 stays-70 n many rise n (omega arith)
+instrument-top f n many no-fall = top f *70* (λ s. s .instrument) sets-70 stays-70 n many no-fall n (omega arith)
 
-pub antenna-top : (f : List ℕ) (n : ℕ) → n ≤ begun f → ((x : ℕ) → x < n → kindAt f x ≡ *72* → before chapter4 f x .antenna + 1 ≤ numberAt 11 (recordAt f x))
+pub antenna-top : (f : List ℕ) (n : ℕ) → n ≤ begun f → ((x : ℕ) → x < n → kindAt f x ≡ *72* → before chapter4 f x .antenna ≤ numberAt 11 (recordAt f x))
     → (j : ℕ) → j < n → kindAt f j ≡ *72* → numberAt 11 (recordAt f j) ≤ before chapter4 f n .antenna
-antenna-top f n many rise = top f *72* (λ s. s .antenna) sets-72 stays-72 n many rise n (omega arith)
+antenna-top f n many no-fall = top f *72* (λ s. s .antenna) sets-72 stays-72 n many no-fall n (omega arith)
 
 -- ---- the table of places, tried
 -- a *27* follows a *25*, a *26*, or one or two *27*, and makes the next place

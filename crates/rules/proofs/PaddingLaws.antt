@@ -15,7 +15,7 @@ use Rattle.rules.specs.Records.{Edition, bytes, formedLine}
 use Rattle.rules.specs.Files.{Result, accept, refuse, isAccept, inRecord, andThen, lineAt, begun, linesFrom, lines, join, accepted, formedLines}
 use Rattle.rules.specs.Chapter4.{chapter4}
 use Rattle.rules.specs.Padding.{End, lf, crlf, closing, Line, endBytes, bytesOf, EndsBefore, Lined, Reads, line, behind, joined, linesOf, texts, paddedLine, padded, judgeTexts, padVerdict, PadFaults, PadPrecedes, PadFirst, Alike, OnlyTrimmed}
-use Rattle.rules.proofs.Truth.{both, and, to≤, of≤, no≤, to≡, of≡, of≢, no≡, to-within, cases, either, all-parts, all-weaken, all-at, all-members}
+use Rattle.rules.proofs.Truth.{both, and, to≤, of≤, no≤, to≡, of≡, of≢, no≡, to-within, cases, either, all-parts, all-weaken, all-at, map-at, all-members}
 use Rattle.rules.proofs.FieldLaws.{isOk-⨾, isOk-check}
 use Rattle.rules.proofs.FileLaws.{is-accept, inRecord-accept, isLine, length-join, lines-join, records, line-at, length-take-most, accepted-parts}
 
@@ -310,12 +310,6 @@ all-lines (t ∷ ts) h = and (of≡ (line-81 t (to≤ (both h .0)))) (all-lines 
 pub lines-long : (ts : List (List ℕ)) → AllShort ts → length (join (map paddedLine ts)) ≡ 81 * length ts
 lines-long ts h = length-join (map paddedLine ts) (all-lines ts h) ∙ ap (λ n. 81 * n) (length-map ts paddedLine)
 
--- look up what was made of a list's members
-at-map : {A B : Type 0} (g : A → B) (xs : List A) (a : A) (b : B) (i : ℕ) → i < length xs → getD (map g xs) i b ≡ g (getD xs i a)
-at-map g [] a b i h = absurd (omega arith)
-at-map g (x ∷ xs) a b zero h = refl
-at-map g (x ∷ xs) a b (suc i) h = at-map g xs a b i (omega arith)
-
 module _ (f : List ℕ) (h : judgeTexts 1 (texts f) ≡ accept) where
   -- every line has at most 80 bytes, and there are at most 99,999
   pub short-texts : (all (λ t. length t ≤? 80) (texts f) ≡ true) × (length (texts f) ≤ 99_999)
@@ -337,7 +331,7 @@ module _ (f : List ℕ) (h : judgeTexts 1 (texts f) ≡ accept) where
 
   padded-at : (i : ℕ) → i < length (texts f) → lineAt (padded f) i ≡ paddedLine (getD (texts f) i [])
   padded-at i k =
-      sym (line-at (padded f) i (rw padded-begun k)) ∙ ap (λ ls. getD ls i []) padded-lines ∙ at-map paddedLine (texts f) [] [] i k
+      sym (line-at (padded f) i (rw padded-begun k)) ∙ ap (λ ls. getD ls i []) padded-lines ∙ map-at paddedLine (texts f) [] [] i k
 
   -- every line of it is its source line followed by blanks only: nothing lost, nothing else added
   pub padded-line : (i : ℕ) → i < length (texts f)
@@ -517,7 +511,7 @@ trimmed-same f g h k = ((λ e. (as-many (same e), each (same e))), (λ o. unfold
     each e i l =
         let l′ : i < length (texts g) = omega (arith, as-many e) in
         padded-alike _ _ (short-at f h i l) (short-at g k i l′)
-        (sym (at-map paddedLine (texts f) [] [] i l) ∙ ap (λ ls. getD ls i []) e ∙ at-map paddedLine (texts g) [] [] i l′)
+        (sym (map-at paddedLine (texts f) [] [] i l) ∙ ap (λ ls. getD ls i []) e ∙ map-at paddedLine (texts g) [] [] i l′)
 
     lines-same : length (texts f) ≡ length (texts g) → ((i : ℕ) → i < length (texts f) → Alike (getD (texts f) i []) (getD (texts g) i []))
         → map paddedLine (texts f) ≡ map paddedLine (texts g)
@@ -526,7 +520,7 @@ trimmed-same f g h k = ((λ e. (as-many (same e), each (same e))), (λ o. unfold
         (λ i b.
         let l : i < length (texts f) = rw (← length-map (texts f) paddedLine) b in
         let l′ : i < length (texts g) = omega arith in
-        at-map paddedLine (texts f) [] [] i l ∙ alike-padded _ _ (short-at f h i l) (short-at g k i l′) (a i l) ∙ sym (at-map paddedLine (texts g) [] [] i l′))
+        map-at paddedLine (texts f) [] [] i l ∙ alike-padded _ _ (short-at f h i l) (short-at g k i l′) (a i l) ∙ sym (map-at paddedLine (texts g) [] [] i l′))
 
 -- ---- padding is settled where no padded line has a CR in column 80
 no-lf-behind : (t u : List ℕ) → (10 ∈ t → ⊥) → (10 ∈ u → ⊥) → 10 ∈ (t ++ u) → ⊥
@@ -583,7 +577,7 @@ module _ (f : List ℕ) (h : judgeTexts 1 (texts f) ≡ accept) (no-cr : (i : �
       clean i k =
           let k′ : i < length (texts f) = rw (← length-map (texts f) filled) k in
           let no-cr-here : getD (paddedLine (getD (texts f) i [])) 79 0 ≡ 13 → ⊥ = rw (padded-at f h i k′) at (no-cr i k′) in
-          rw (at-map filled (texts f) [] [] i k′) (filled-clean (getD (texts f) i []) (short-at f h i k′) (no-lf f i k′) no-cr-here)
+          rw (map-at filled (texts f) [] [] i k′) (filled-clean (getD (texts f) i []) (short-at f h i k′) (no-lf f i k′) no-cr-here)
 
   -- the padded file is judged good again, and padding it again changes nothing
   pub padded-settled : (judgeTexts 1 (texts (padded f)) ≡ accept) × (padded (padded f) ≡ padded f)

@@ -12,7 +12,7 @@ use Rattle.rules.specs.Records.{Meaning}
 use Rattle.rules.specs.Files.{isAccept, refer}
 use Rattle.rules.specs.Kinds.{kindOf, *80*}
 use Rattle.rules.specs.Members.{_∈_}
-use Rattle.rules.specs.References.{Family, stations, instruments, antennas, families, Naming, namings, ofFirst, isA, numberAt, defines, definerFrom, definer, asked, namedCheck, refChecks, tabulate, hasWord, wordAt, words, blankRecord, Defines, Named, Referred}
+use Rattle.rules.specs.References.{Family, stations, instruments, antennas, families, Naming, namings, ofFirst, isA, numberAt, defines, definerFrom, definer, asked, namedCheck, refChecks, tabulate, hasWord, wordAt, words, blankRecord, Defines, Earliest, Named, Referred}
 use Rattle.rules.specs.Chapter4.{chapter4}
 use Rattle.rules.proofs.Truth.{all-members, members-all, both, and, to≤, of≤, no≤, to≡, of≡, no≡, of≢, to-within, of-within, cases, either, not-both, below-or-equal}
 use Rattle.rules.proofs.FieldLaws.{isOk-⨾, isOk-check}
@@ -183,6 +183,16 @@ definer-first k n ms i x least =
     (λ y. omega (arith, y .2, definer-least k n 1 ms i x, least (y .0) (y .1)))
     (definer-some k n 1 ms)
 
+pub definer-iff : (k n : ℕ) (ms : List Meaning) (i : ℕ) → (definer k n ms ≡ i + 1) ↔ Earliest ms k n i
+unfolding Earliest definer
+definer-iff k n ms i = (
+  (λ h. either
+      (λ z. absurd (omega arith))
+      (λ y. (subst (Defines ms k n) (omega (arith, y .2)) (y .1), λ j x. omega (arith, h, definer-least k n 1 ms j x)))
+      (definer-some k n 1 ms)),
+  (λ e. unfold definer in definer-first k n ms i (e .0) (e .1)),
+)
+
 -- an *80* that is not its number's definer repeats the number of an earlier one, and the other way round
 pub repeats-iff : (n : ℕ) (ms : List Meaning) (i : ℕ) → Defines ms *80* n i
     → (definer *80* n ms =? i + 1 ≡ false) ↔ ((j : ℕ) × (j < i) × Defines ms *80* n j)
@@ -299,3 +309,17 @@ word-in ms F i n h =
   where
     here : hasWord (F .base + n) F ≡ true
     here = unfold hasWord in of-within (omega arith) (omega arith)
+
+-- the first record's, where there are several
+pub word-first : (ms : List Meaning) (F : Family) → F ∈ families → (n : ℕ) → n ≤ F .most → (i : ℕ) → (getD (words ms) (F .base + n) 0 ≡ i + 1) ↔ Earliest ms (F .kind) n i
+word-first ms F m n h i =
+    let iff = definer-iff (F .kind) n ms i in
+    let same = word-in ms F m n h in
+    ((λ e. iff .0 (sym same ∙ e)), (λ x. same ∙ iff .1 x))
+
+-- none is above that of a record that defines the number, and none is 0
+pub word-of : (ms : List Meaning) (F : Family) → F ∈ families → (n : ℕ) → n ≤ F .most → (i : ℕ) → Defines ms (F .kind) n i → (1 ≤ getD (words ms) (F .base + n) 0) × (getD (words ms) (F .base + n) 0 ≤ i + 1)
+word-of ms F m n h i x =
+    let same = word-in ms F m n h in
+    let least : definer (F .kind) n ms ≤ 1 + i = unfold definer in definer-least (F .kind) n 1 ms i x in
+    (omega (arith, same, to≤ (defined-iff (F .kind) n ms .1 (i, x))), omega (arith, same))

@@ -17,7 +17,7 @@ use Rattle.rules.specs.Files.{Result, accept, refuse, inRecord, andThen,
 use Rattle.rules.specs.Kinds.{dataCodes, kindFrom, starred, kindBetween, kindOf, known, *70*, *72*, *80*}
 use Rattle.rules.specs.Layouts.{layouts, layout}
 use Rattle.rules.specs.Order.{order, goto}
-use Rattle.rules.specs.References.{isA, numberAt, defines, definerFrom, definer, asked, refChecks, tabulate, tally, counts}
+use Rattle.rules.specs.References.{isA, numberAt, defines, definerFrom, definer, asked, refChecks, tabulate, mark, tally, counts}
 use Rattle.rules.specs.Chapter4.{Past, atStart, sameBytes, mayStand, expectation, latest, after, chapter4}
 use Rattle.rules.specs.Calls.{answer, outcome, bigTable, checkAnswer, Reading, unread, readAs, readOf}
 use Rattle.rules.proofs.Truth.{of≤, all-append, all-replicate}
@@ -62,6 +62,10 @@ r-begin2 = "      *27*00022402020000                               00000        
 
 abbrev r-receiver1 : String
 r-receiver1 = "      *70*010123      TRIMBLE                                 R10     5512345678\n"
+
+-- the number of the one before, and nothing else of it
+abbrev r-receiver1-again : String
+r-receiver1-again = "    80*70* 10045      LEICA                                   GS18    3701188   \n"
 
 abbrev r-receiver2 : String
 r-receiver2 = "      *70*011123      TRIMBLE                                 R10               \n"
@@ -250,6 +254,31 @@ definersOf ls =
 pub full-definers : definersOf full ≡ 17 ∷ 19 ∷ 0 ∷ 13 ∷ 14 ∷ 15 ∷ 16 ∷ []
 unfolding definersOf
 full-definers = refl
+
+-- ---- 02, T-04: a receiver with two *70* records is defined by the first; numbers that fall, by one or back to an earlier one, are refused
+abbrev pub twofold : List String
+twofold = r-job ∷ r-title ∷ r-project ∷ r-occupy1 ∷ r-begin1 ∷ r-end1 ∷ r-receiver1 ∷ r-receiver1-again ∷ r-receiver2 ∷ r-aerial1 ∷ r-point1 ∷ r-heights1 ∷ r-last ∷ []
+
+pub twofold-definers : definersOf twofold ≡ 11 ∷ 0 ∷ 0 ∷ 7 ∷ 9 ∷ 10 ∷ 0 ∷ []
+unfolding definersOf
+twofold-definers = refl
+
+pub twofold-accepted : judged twofold ≡ accept
+unfolding judged
+twofold-accepted = refl
+
+pub falling :
+    (judged (r-job ∷ r-title ∷ r-project ∷ r-occupy1 ∷ r-begin1 ∷ r-end1 ∷ r-receiver2 ∷ r-receiver1 ∷ [])
+    ∷ judged (r-job ∷ r-title ∷ r-project ∷ r-occupy1 ∷ r-begin1 ∷ r-end1 ∷ r-receiver1 ∷ r-receiver2 ∷ r-receiver1-again ∷ [])
+    ∷ [])
+    ≡ (refuse 10 8 11 ∷ refuse 10 9 11 ∷ [])
+unfolding judged
+falling = refl
+
+-- the pass that fills the table: the word of record 7 is not record 8's
+pub first-keeps : (mark 7 2 (0 ∷ 0 ∷ 0 ∷ []) ∷ mark 8 2 (0 ∷ 0 ∷ 7 ∷ []) ∷ []) ≡ ((0 ∷ 0 ∷ 7 ∷ []) ∷ (0 ∷ 0 ∷ 7 ∷ []) ∷ [])
+unfolding mark _=?_
+first-keeps = refl
 
 -- ---- the same meaning in another dress, and another meaning
 -- record 17 with a sequence number, a padded station and 180 E

@@ -14,10 +14,10 @@ use Rattle.rules.specs.Records.{Meaning, told, meant}
 use Rattle.rules.specs.Kinds.{kindOf, known}
 use Rattle.rules.specs.Layouts.{at, kept, layouts, layout}
 use Rattle.rules.specs.Members.{_∈_}
-use Rattle.rules.specs.References.{Family, families, Naming, namings, isA, numberAt, defines, definerFrom, definer, tabulate, hasWord, wordAt, words, slotOf, mark, filled, tally, counts, sum}
+use Rattle.rules.specs.References.{Family, families, Naming, namings, isA, numberAt, defines, definerFrom, definer, tabulate, hasWord, wordAt, words, slotOf, mark, filled, tally, counts, sum, blankRecord, Defines}
 use Rattle.rules.specs.Chapter4.{chapter4}
-use Rattle.rules.proofs.Truth.{all-members, both, to≤, to≡, of≡, no≡, of≢, is-no, cases, either, not-both, true-and, to-within, of-within, below-or-equal}
-use Rattle.rules.proofs.ReferenceLaws.{one-or-none, first-is, first-none, word-range, in-table, same-kind, families-apart, tabulate-at, length-words, word-at}
+use Rattle.rules.proofs.Truth.{all-members, all-at, both, to≤, to≡, of≡, no≡, of≢, is-no, cases, either, not-both, true-and, to-within, of-within, below-or-equal}
+use Rattle.rules.proofs.ReferenceLaws.{one-or-none, first-is, first-none, word-range, in-table, same-kind, families-apart, tabulate-at, length-words, word-at, word-of}
 
 -- ---- numbers of records that can be meant lie in their family's range
 number-range : (w lo hi : ℕ) (v : Value) → fits (number w lo hi false) v ≡ true → (lo ≤ numOf v) × (numOf v ≤ hi)
@@ -90,6 +90,15 @@ module _ (F : Family) where
 
     pub own-range : (m : Meaning) → meant chapter4 m ≡ true → isA (F .kind) m ≡ true → (1 ≤ numberAt 11 m) × (numberAt 11 m ≤ F .most)
     own-range m h e = at-column 11 (F .kind) m h e own-field
+
+    -- each record that defines a number has it in the table
+    pub tabled : (ms : List Meaning) → all (meant chapter4) ms ≡ true → (n j : ℕ) → Defines ms (F .kind) n j
+        → (n ≤ F .most) × (1 ≤ getD (words ms) (F .base + n) 0) × (getD (words ms) (F .base + n) 0 ≤ j + 1)
+    unfolding Defines
+    tabled ms h n j x =
+        let most : n ≤ F .most = subst (λ k. k ≤ F .most) (x .2) (own-range (getD ms j blankRecord) (all-at (meant chapter4) ms blankRecord j h (x .0)) (unfold isA in of≡ (x .1)) .1) in
+        let word = word-of ms F i n most j x in
+        (most, word .0, word .1)
 
 module _ (N : Naming) (i : N ∈ namings) where
   pub named-field : hasNumberAt (N .family) (N .column) (getD layouts (N .by) kept) ≡ true

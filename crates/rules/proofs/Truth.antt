@@ -2,7 +2,7 @@
 use mathlib.Core.Path.{_≡_, refl, sym, _∙_, ap}
 use mathlib.Core.Logic.{_⊎_, inl, inr}
 use mathlib.Core.Bool.{Bool, true, false, cond, not, _&&_, _||_, false≢true}
-use mathlib.Core.List.{List, [], _∷_, _++_}
+use mathlib.Core.List.{List, [], _∷_, _++_, map}
 use Prim.Native.Nat.{ℕ, zero, suc, _≤_, _<_}
 use native.Mathlib.Omega.{arith}
 use lib.ListN.{length, getD, replicate, take, drop, take-append-drop}
@@ -141,6 +141,12 @@ module _ {A : Type 0} where
   all-at p [] d k h i = absurd (omega arith)
   all-at p (x ∷ xs) d zero h i = both h .0
   all-at p (x ∷ xs) d (suc k) h i = all-at p xs d k (both h .1) (omega arith)
+
+-- what was made of a list's members, looked up
+pub map-at : {A B : Type 0} (g : A → B) (xs : List A) (a : A) (b : B) (i : ℕ) → i < length xs → getD (map g xs) i b ≡ g (getD xs i a)
+map-at g [] a b i h = absurd (omega arith)
+map-at g (x ∷ xs) a b zero h = refl
+map-at g (x ∷ xs) a b (suc i) h = map-at g xs a b i (omega arith)
 
 -- every number below n, and a test that was tried on them all
 unfoldable pub under : ℕ → List ℕ

@@ -3,7 +3,7 @@ use mathlib.Core.Bool.{Bool, true, false, cond}
 use mathlib.Core.List.{List, [], _∷_}
 use Prim.Native.Nat.{ℕ}
 use Rattle.rules.specs.Tests.{_&_, _≤?_, _=?_}
-use Rattle.rules.specs.Fields.{Expect, anything, same, above}
+use Rattle.rules.specs.Fields.{Expect, anything, same, notBelow, above}
 use Rattle.rules.specs.Records.{Meaning, Edition}
 use Rattle.rules.specs.Kinds.{kindOf, known, *AA*, *25*, *27*, *70*, *72*, *80*, *86*}
 use Rattle.rules.specs.Layouts.{layout}
@@ -32,12 +32,12 @@ sameBytes (x ∷ xs) (y ∷ ys) = x =? y & sameBytes xs ys
 unfoldable pub mayStand : List (List ℕ) → Past → List ℕ → Bool
 mayStand rows s c = 1 ≤? goto rows (s .place) (kindOf c) & cond (kindOf c =? *AA*) (cond (s .place =? nothing) true (sameBytes c (s .job))) true
 
--- 10 at column 11: a *27* has its group's station, an *86* the station of the *80* before it; *70* and *72* rise strictly
+-- 10 at column 11: a *27* has its group's station, an *86* the station of the *80* before it; 02, T-04: *70* never fall; *72* rise strictly
 unfoldable pub expectation : Past → List ℕ → Expect
 expectation s c =
     cond (kindOf c =? *27*) (same (s .group)) (
     cond (kindOf c =? *86*) (same (s .point)) (
-    cond (kindOf c =? *70*) (above (s .instrument)) (
+    cond (kindOf c =? *70*) (notBelow (s .instrument)) (
     cond (kindOf c =? *72*) (above (s .antenna)) anything)))
 
 -- the number of a record of kind k, else what was kept

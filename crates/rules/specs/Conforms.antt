@@ -86,8 +86,10 @@ pub record Stands (f : List ℕ) (i : ℕ) : Type 0 where
   pub measured : kindAt f i ≡ *27* → (j : ℕ) × Group f j i × (numberAt 11 (recordAt f i) ≡ numberAt 11 (recordAt f j))
   -- "an *86* the station of the *80* before it"
   pub paired : kindAt f i ≡ *86* → (j : ℕ) × Nearest f *80* *80* j i × (numberAt 11 (recordAt f i) ≡ numberAt 11 (recordAt f j))
-  -- "*70* records rise strictly by instrument number, *72* by antenna number"
-  pub rises : (kindAt f i ≡ *70*) ⊎ (kindAt f i ≡ *72*) → (j : ℕ) → j < i → kindAt f j ≡ kindAt f i → numberAt 11 (recordAt f j) < numberAt 11 (recordAt f i)
+  -- 02, T-04, *70*: "Instrument numbers may repeat, standing together, and never fall"
+  pub never-falls : kindAt f i ≡ *70* → (j : ℕ) → j < i → kindAt f j ≡ *70* → numberAt 11 (recordAt f j) ≤ numberAt 11 (recordAt f i)
+  -- "*72* by antenna number", rising strictly
+  pub rises : kindAt f i ≡ *72* → (j : ℕ) → j < i → kindAt f j ≡ *72* → numberAt 11 (recordAt f j) < numberAt 11 (recordAt f i)
 
 pub record Conforms (f : List ℕ) : Type 0 where
   pub few : begun f ≤ 99_999

@@ -10,8 +10,8 @@ use Rattle.rules.specs.Members.{_∈_}
 use Rattle.rules.specs.Items.{num, valueOf}
 use Rattle.rules.specs.Records.{Meaning, sequence, codeAt}
 use Rattle.rules.specs.Files.{Result, lines, meanings, accepted, rewritten}
-use Rattle.rules.specs.Kinds.{kindOf}
-use Rattle.rules.specs.References.{Family, families, definer, words, filled, tally, counts, sum}
+use Rattle.rules.specs.Kinds.{kindOf, *70*}
+use Rattle.rules.specs.References.{Family, families, definer, words, filled, tally, counts, sum, Defines, Earliest}
 use Rattle.rules.specs.Faults.{FirstOf, HasFault, CallFaults}
 use Rattle.rules.specs.Calls.{outcome}
 use Rattle.rules.specs.Chapter4.{chapter4}
@@ -39,3 +39,9 @@ pub record Tells (f : List ℕ) (ms : List Meaning) : Type 0 where
   pub none-passed-over : sum (counts ms) ≡ length (lines f)
   pub word : (F : Family) → F ∈ families → (n : ℕ) → n ≤ F .most → getD (words ms) (F .base + n) 0 ≡ definer (F .kind) n ms
   pub as-filled : filled 1 ms (replicate 12_000 0) ≡ words ms
+  -- 02, T-04, "The table word holds the first such record": the least record number of those that define the number
+  pub first : (F : Family) → F ∈ families → (n : ℕ) → n ≤ F .most → (i : ℕ) → (getD (words ms) (F .base + n) 0 ≡ i + 1) ↔ Earliest ms (F .kind) n i
+  -- each record that defines a number has it in the table
+  pub tabled : (F : Family) → F ∈ families → (n i : ℕ) → Defines ms (F .kind) n i → (n ≤ F .most) × (1 ≤ getD (words ms) (F .base + n) 0) × (getD (words ms) (F .base + n) 0 ≤ i + 1)
+  -- 02, T-04, "standing together": each record between two of one instrument number has it too
+  pub together : (n i x j : ℕ) → Defines ms *70* n i → Defines ms *70* n j → i ≤ x → x ≤ j → Defines ms *70* n x

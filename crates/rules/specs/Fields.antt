@@ -25,6 +25,7 @@ pub record Field : Type 0 where
 pub data Expect : Type 0 where
   anything : Expect
   same : ℕ → Expect
+  notBelow : ℕ → Expect
   above : ℕ → Expect
 
 -- ---- faults: the number and the column
@@ -118,6 +119,7 @@ sameTruth false b = not b
 unfoldable pub meets : Expect → ℕ → Bool
 meets anything n = true
 meets (same k) n = n =? k
+meets (notBelow k) n = k ≤? n
 meets (above k) n = k + 1 ≤? n
 
 -- 01, *12* (the end not before the beginning), *86* (codes and heights), *27* *70* *72* *86* (column 11); 02, T-03, *92* ("where a record names two they differ")

@@ -3,7 +3,7 @@
 use mathlib.Core.Path.{_≡_}
 use mathlib.Core.Bool.{Bool, true, cond}
 use mathlib.Core.List.{List, [], _∷_, map}
-use Prim.Native.Nat.{ℕ, zero, suc, _+_, _-_, _<_}
+use Prim.Native.Nat.{ℕ, zero, suc, _+_, _-_, _≤_, _<_}
 use lib.ListN.{length, getD, set}
 use Rattle.rules.specs.Tests.{_&_, _≤?_, _=?_, within}
 use Rattle.rules.specs.Members.{_∈_}
@@ -131,6 +131,10 @@ blankRecord = record { code = []; values = [] }
 -- record i + 1 is of kind k and has number n
 unfoldable pub Defines : List Meaning → ℕ → ℕ → ℕ → Type 0
 Defines ms k n i = (i < length ms) × (kindOf (getD ms i blankRecord .code) ≡ k) × (numberAt 11 (getD ms i blankRecord) ≡ n)
+
+-- and no record before it has
+unfoldable pub Earliest : List Meaning → ℕ → ℕ → ℕ → Type 0
+Earliest ms k n i = Defines ms k n i × ((j : ℕ) → Defines ms k n j → i ≤ j)
 
 -- what a record names, some record defines
 unfoldable pub Named : List Meaning → Meaning → Naming → Type 0

@@ -25,7 +25,7 @@ module _ (s : Kept) (k : ℕ) where
   unfolding expectIn _=?_
   expect-27 e = rw e
 
-  pub expect-70 : k ≡ 7 → X.Above (s .instrument) ≡ expectIn s k
+  pub expect-70 : k ≡ 7 → X.NotBelow (s .instrument) ≡ expectIn s k
   unfolding expectIn _=?_
   expect-70 e = rw e
 

@@ -3,13 +3,16 @@ use mathlib.Core.Path.{_≡_, refl, sym, _∙_, ap}
 use mathlib.Core.Bool.{true}
 use mathlib.Core.List.{List, []}
 use Prim.Native.Nat.{ℕ, _≤_}
+use Prim.Native.String.{String}
 use native.Mathlib.Omega.{arith}
 use lib.ListN.{length, getD, replicate, length-replicate}
-use Rattle.rules.specs.Files.{refuse, isAccept, verdict, accepted}
-use Rattle.rules.specs.Kinds.{*86*}
-use Rattle.rules.specs.References.{counts}
+use lib.Seq.{getD-take}
+use Rattle.rules.specs.Files.{accept, refuse, isAccept, meanings, verdict, accepted}
+use Rattle.rules.specs.Kinds.{*70*, *86*}
+use Rattle.rules.specs.References.{instruments, definer, counts}
 use Rattle.rules.specs.Chapter4.{chapter4}
-use Rattle.rules.proofs.Samples.{bytesOf, judged, full, full-accepted, counted, full-counts, malformedLater, malformed-first}
+use Rattle.rules.proofs.ReferenceLaws.{instruments-in}
+use Rattle.rules.proofs.Samples.{bytesOf, judged, full, full-accepted, counted, full-counts, malformedLater, malformed-first, definersOf, twofold, twofold-accepted, twofold-definers}
 use Rattle.kinds.specs.declared.Fault.{Fault}
 use Rattle.kinds.specs.declared.Checked.{Checked}
 use Rattle.walk.specs.Promise.{Promised}
@@ -23,9 +26,9 @@ pub table-long : 12_000 ≤ length table
 unfolding table
 table-long = omega (arith, length-replicate {A = ℕ} 12_000 0)
 
-full-taken : accepted chapter4 (bytesOf full) ≡ true
+taken : (ls : List String) → judged ls ≡ accept → accepted chapter4 (bytesOf ls) ≡ true
 unfolding accepted judged isAccept
-full-taken = ap isAccept full-accepted
+taken ls e = ap isAccept e
 
 empty-refused : verdict chapter4 [] ≡ refuse 8 1 1
 unfolding judged
@@ -33,8 +36,11 @@ empty-refused = refl
 
 -- a check, whatever it does, that keeps the promise
 module _ (answer : List ℕ → List ℕ → Checked) (words : List ℕ → List ℕ → List ℕ) (keeps : (f t : List ℕ) → Promised f t (answer f t) (words f t)) where
+  zero : (ls : List String) → judged ls ≡ accept → answer (bytesOf ls) table .fault .number ≡ 0
+  zero ls e = accepted-zero (bytesOf ls) table _ _ (keeps (bytesOf ls) table) table-long (taken ls e)
+
   full-zero : answer (bytesOf full) table .fault .number ≡ 0
-  full-zero = accepted-zero (bytesOf full) table _ _ (keeps (bytesOf full) table) table-long full-taken
+  full-zero = zero full full-accepted
 
   pub not-refusing-everything : ((f t : List ℕ) → answer f t .fault .number ≡ 0 → ⊥) → ⊥
   not-refusing-everything wrong = wrong (bytesOf full) table full-zero
@@ -58,3 +64,17 @@ module _ (answer : List ℕ → List ℕ → Checked) (words : List ℕ → List
   not-undefined-first wrong =
       let ten : answer (bytesOf malformedLater) table .fault .number ≡ 10 = refused-number (bytesOf malformedLater) table _ _ (keeps (bytesOf malformedLater) table) table-long 10 20 11 (unfold judged in malformed-first) in
       omega (arith, wrong, ten)
+
+  -- 02, T-04: a receiver with two *70* records, 7 and 8 of the sample
+  pub not-turning-two-70-away : answer (bytesOf twofold) table .fault .number ≡ 0
+  not-turning-two-70-away = zero twofold twofold-accepted
+
+  pub not-the-last-70 : getD (words (bytesOf twofold) table) 10_010 0 ≡ 7
+  unfolding definersOf
+  not-the-last-70 =
+      let told = demand-2-check (bytesOf twofold) table _ _ (keeps (bytesOf twofold) table) in
+      let first : definer *70* 10 (meanings chapter4 (bytesOf twofold)) ≡ 7 = ap (λ ns. getD ns 3 0) twofold-definers in
+      sym (getD-take 12_000 (words (bytesOf twofold) table) 10_010 0 (omega arith))
+      ∙ ap (λ ws. getD ws 10_010 0) (told .filled not-turning-two-70-away)
+      ∙ told .told not-turning-two-70-away .word instruments instruments-in 10 (omega arith)
+      ∙ first

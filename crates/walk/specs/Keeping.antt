@@ -30,7 +30,7 @@ unfoldable pub expectIn : Kept → ℕ → Expect
 expectIn s k =
     cond (k =? *27*) (X.Same (s .group)) (
     cond (k =? *86*) (X.Same (s .point)) (
-    cond (k =? *70*) (X.Above (s .instrument)) (
+    cond (k =? *70*) (X.NotBelow (s .instrument)) (
     cond (k =? *72*) (X.Above (s .antenna)) X.Anything)))
 
 -- a job code that does not open the file and is not the first record's

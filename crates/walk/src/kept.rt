@@ -17,13 +17,13 @@ pub struct Kept {
     pub antenna: u32,
 }
 
-// What column 11 must be: a *27* has its group's station, an *86* that of the *80* before it; *70* and *72* rise.
+// What column 11 must be: a *27* has its group's station, an *86* that of the *80* before it; *70* never fall, *72* rise.
 pub(crate) fn expect(s: Kept, kind: usize) -> Expect
     ensures { λ r. ⌜ r ≡ expectIn s kind ⌝ }
 {
     match kind {
         6 => Expect::Same(s.group),
-        7 => Expect::Above(s.instrument),
+        7 => Expect::NotBelow(s.instrument),
         8 => Expect::Above(s.antenna),
         10 => Expect::Same(s.point),
         _ => Expect::Anything,

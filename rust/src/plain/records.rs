@@ -23,6 +23,7 @@ pub struct Reading {
 pub(super) enum Compare {
     Nothing,
     Same(i64),
+    NotBelow(i64),
     Above(i64),
 }
 
@@ -71,6 +72,7 @@ pub(super) fn judge(
             let agrees = match compare {
                 Compare::Nothing => true,
                 Compare::Same(number) => values[0] == number,
+                Compare::NotBelow(number) => values[0] >= number,
                 Compare::Above(number) => values[0] > number,
             };
             if !agrees {

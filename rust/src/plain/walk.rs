@@ -63,7 +63,7 @@ fn next(place: Place, kind: usize) -> Option<Place> {
 }
 
 /// Checks a file. On acceptance the table says in which record each station,
-/// instrument and antenna is defined.
+/// instrument and antenna is defined, an instrument in the first of its *70*.
 pub fn check(file: &[u8], table: &mut [u32]) -> Checked {
     if table.len() < TABLE_WORDS {
         return Checked::refused(Fault::TOO_SHORT);
@@ -116,7 +116,8 @@ fn walk(file: &[u8], table: &mut [u32]) -> Result<[u32; 14], Fault> {
         let compare = match kind {
             MEASUREMENT => Compare::Same(group_station),
             HEIGHTS => Compare::Same(point_station),
-            INSTRUMENT => Compare::Above(last_instrument),
+            // More than one *70* of an instrument stand together.
+            INSTRUMENT => Compare::NotBelow(last_instrument),
             ANTENNA => Compare::Above(last_antenna),
             _ => Compare::Nothing,
         };
@@ -125,20 +126,15 @@ fn walk(file: &[u8], table: &mut [u32]) -> Result<[u32; 14], Fault> {
             OCCUPATION => group_station = values[0],
             INSTRUMENT => {
                 last_instrument = values[0];
-                table[FIRST_INSTRUMENT_WORD + last_instrument as usize] = record as u32;
+                define(table, FIRST_INSTRUMENT_WORD, last_instrument, record);
             }
             ANTENNA => {
                 last_antenna = values[0];
-                table[FIRST_ANTENNA_WORD + last_antenna as usize] = record as u32;
+                define(table, FIRST_ANTENNA_WORD, last_antenna, record);
             }
             POINT => {
                 point_station = values[0];
-                // A second definition is fault 11 later; it must not hide
-                // the first.
-                let word = &mut table[point_station as usize];
-                if *word == 0 {
-                    *word = record as u32;
-                }
+                define(table, 0, point_station, record);
             }
             _ => (),
         }
@@ -154,6 +150,17 @@ fn walk(file: &[u8], table: &mut [u32]) -> Result<[u32; 14], Fault> {
             record,
             column: 1,
         })
+    }
+}
+
+/// Puts a record into the word of the number it defines, where number 0 would
+/// have word `start`, unless the number has a record. The first of an
+/// instrument's *70* is the one to be found; a second *80* of a station is
+/// fault 11 later and must not hide the first.
+fn define(table: &mut [u32], start: usize, number: i64, record: u64) {
+    let word = &mut table[start + number as usize];
+    if *word == 0 {
+        *word = record as u32;
     }
 }
 

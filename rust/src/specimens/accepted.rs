@@ -1,7 +1,7 @@
 //! Accepted files.
 
 use super::survey::*;
-use super::{accuracies, Specimen};
+use super::{accuracies, receivers, Specimen};
 
 pub fn specimens() -> Vec<Specimen> {
     let mut all = vec![
@@ -27,6 +27,7 @@ pub fn specimens() -> Vec<Specimen> {
         ),
     ];
     all.extend(accuracies::accepted());
+    all.extend(receivers::accepted());
     all.extend(slips());
     all.extend(dress());
     all

@@ -236,12 +236,6 @@ const ROWS: &[Row] = &[
         "*70* of instrument 6 behind that of 7",
     ),
     (
-        "fault_10_70_repeated",
-        (10, 8, 11),
-        &[(8, 11, "  7")],
-        "*70* of instrument 7 twice: they rise strictly",
-    ),
-    (
         "fault_10_72_falling",
         (10, 10, 11),
         &[(10, 11, "002")],

@@ -119,18 +119,22 @@ impl<'a> Walk<'a> {
         self.take_good(|line| judge::measurement(line, station))
     }
 
-    /// *70* and *72*, each rising.
+    /// *70*, which never fall, and *72*, which rise strictly.
     fn equipment(&mut self) -> Option<()> {
-        self.counts[INSTRUMENT] = self.rising(b"70", FIRST_INSTRUMENT_WORD, judge::instrument)?;
-        self.counts[ANTENNA] = self.rising(b"72", FIRST_ANTENNA_WORD, judge::antenna)?;
+        self.counts[INSTRUMENT] =
+            self.rising(b"70", FIRST_INSTRUMENT_WORD, true, judge::instrument)?;
+        self.counts[ANTENNA] = self.rising(b"72", FIRST_ANTENNA_WORD, false, judge::antenna)?;
         Some(())
     }
 
+    /// Numbers that rise, or may repeat: the first record of a number is the
+    /// one that defines it.
     #[inline(always)]
     fn rising(
         &mut self,
         code: &[u8; 2],
         first_word: usize,
+        may_repeat: bool,
         judge: impl Fn(&Line) -> Option<Digits>,
     ) -> Option<u32> {
         let before = self.record;
@@ -138,6 +142,9 @@ impl<'a> Walk<'a> {
         self.define(first_word + judge::value(last))?;
         while self.comes(code) {
             let number = judge(self.take()?)?;
+            if may_repeat && number == last {
+                continue;
+            }
             if !judge::is_above(number, last) {
                 return None;
             }

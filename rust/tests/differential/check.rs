@@ -4,7 +4,9 @@ use crate::files::{self, Family};
 use crate::least;
 use crate::pointing::every_column_was_named;
 use crate::sides::Sides;
-use shelf::plain::layout::{FACTOR, FIELDS, LOCAL, NETWORK, OCCUPATION, POINT};
+use shelf::plain::layout::{
+    ANTENNA, FACTOR, FIELDS, INSTRUMENT, LOCAL, NETWORK, OCCUPATION, POINT,
+};
 
 fn checked(family: Family, least: u64) -> Sides {
     Sides::over(family, least, |sides, file, _| sides.check(file))
@@ -58,6 +60,17 @@ fn references() {
     assert!(sides.faults_at(12, LOCAL, 11) > 0 && sides.faults_at(12, LOCAL, 17) > 0);
 }
 
+/// *70* that repeat, fall and come back.
+#[test]
+fn receivers() {
+    let sides = checked(files::receivers, least::RECEIVERS);
+    assert!(sides.faults(0) > 300 && sides.faults_at(10, INSTRUMENT, 11) > 1_000);
+    assert!(sides.faults_at(10, ANTENNA, 11) > 200 && sides.faults_at(12, OCCUPATION, 28) > 200);
+    for column in [12, 13, 16, 22] {
+        assert!(sides.faults_at(9, INSTRUMENT, column) > 100, "{column}");
+    }
+}
+
 #[test]
 fn two_bytes() {
     let sides = checked(files::two_bytes, least::TWO_BYTES);
@@ -69,6 +82,9 @@ fn damaged() {
     let sides = checked(files::damaged, least::DAMAGED);
     for number in [0, 3, 4, 5, 6, 7, 8, 9, 10, 11, 12] {
         assert!(sides.faults(number) > 500, "fault {number}");
+    }
+    for kind in [INSTRUMENT, ANTENNA] {
+        assert!(sides.faults_at(10, kind, 11) > 100, "{kind}");
     }
 }
 

@@ -116,6 +116,85 @@ pub fn references(try_file: &mut dyn FnMut(&[u8], u32)) {
     }
 }
 
+/// The sample with *70* of these numbers in the place of its two, each with
+/// another serial number. Its *25* name instrument 7.
+pub fn with_instruments(numbers: &[&str]) -> Vec<u8> {
+    let more = numbers.iter().enumerate().map(|(at, number)| {
+        let serial = format!("{at:010}");
+        sample::with(&sample::instrument(number), 1, 71, &serial)
+    });
+    let mut lines = sample::lines();
+    lines.splice(12..14, more);
+    lines.concat()
+}
+
+/// What may stand behind *70* of instrument 7: nothing, the same again, others
+/// above it; then what falls by one, at once and later, comes back, or falls
+/// far.
+const BEHIND: [&[&str]; 12] = [
+    &[],
+    &["007"],
+    &["  7", " 07"],
+    &["  8"],
+    &["008", "008"],
+    &["008", "  8", "999", "999"],
+    &["  6"],
+    &["006", "007"],
+    &["008", "  7"],
+    &["008", "008", "007"],
+    &["010", " 10", "  9"],
+    &["999", "001"],
+];
+
+/// Instruments with one *70* and with more, and every few of the numbers that
+/// matter.
+pub fn receivers(try_file: &mut dyn FnMut(&[u8], u32)) {
+    for copies in [1, 2, 3, 49, 50, 51, 998, 999, 1_000] {
+        for number in ["007", "  7", " 07"] {
+            for behind in BEHIND {
+                let numbers = [&vec![number; copies], behind].concat();
+                with_other_records(&numbers, try_file);
+            }
+        }
+    }
+    let matter = ["001", "  6", "007", "  7", "008", "999"];
+    for length in 1..=4 {
+        for case in 0..matter.len().pow(length) {
+            let number = |place| matter[case / matter.len().pow(place) % matter.len()];
+            let numbers: Vec<&str> = (0..length).map(number).collect();
+            try_file(&with_instruments(&numbers), 12 + length);
+        }
+    }
+}
+
+/// *70* of these numbers in the sample as it is, with other instruments in its
+/// *25*, with a *72* that repeats or falls, and with the last *70* malformed.
+fn with_other_records(numbers: &[&str], try_file: &mut dyn FnMut(&[u8], u32)) {
+    let file = with_instruments(numbers);
+    let last = 12 + numbers.len();
+    try_file(&file, last as u32);
+    for (first, second) in [
+        ("007", "008"),
+        ("  7", "006"),
+        ("999", "  7"),
+        ("009", "007"),
+    ] {
+        let named = sample::with(&file, 5, 28, first);
+        try_file(&sample::with(&named, 10, 28, second), 5);
+    }
+    for (record, column, text) in [
+        (last + 2, 11, "  3"),
+        (last + 2, 11, "002"),
+        (last, 11, "000"),
+        (last, 11, "7  "),
+        (last, 14, "000"),
+        (last, 22, "x"),
+        (last, 80, "\t"),
+    ] {
+        try_file(&sample::with(&file, record, column, text), record as u32);
+    }
+}
+
 /// Two bytes of one record changed, printable ones mostly: which fault is
 /// named first.
 pub fn two_bytes(try_file: &mut dyn FnMut(&[u8], u32)) {

@@ -1,9 +1,11 @@
 //! Files about as long as a file may be.
 
+use crate::files::with_instruments;
 use crate::sides::Sides;
 use shelf::calls::FIELD_WORDS;
-use shelf::generate;
+use shelf::plain::layout::INSTRUMENT;
 use shelf::plain::{LAST_RECORD, LINE};
+use shelf::{generate, sample};
 
 const LAST: usize = LAST_RECORD as usize;
 
@@ -55,6 +57,23 @@ fn records_100_000_and_more() {
     }
     sides.tried(100);
     assert!(sides.faults(2) >= 6 && sides.faults(8) >= 3);
+}
+
+/// As many *70* of one number as a file can have, one of another behind them,
+/// and one more record.
+#[test]
+fn one_instrument_throughout() {
+    let mut sides = Sides::new();
+    let others = sample::lines().len() - 2;
+    for last in ["007", "  8", "006"] {
+        for records in [LAST, LAST + 1] {
+            let numbers = [&vec!["007"; records - others - 1][..], &[last]].concat();
+            try_all(&mut sides, &with_instruments(&numbers));
+        }
+    }
+    sides.tried(80);
+    assert!(sides.faults(0) >= 4 && sides.faults_at(10, INSTRUMENT, 11) == 4);
+    assert!(sides.faults(2) >= 4);
 }
 
 /// Damage among the first records of a long file, where the rest has to be

@@ -24,6 +24,7 @@ mod least {
     pub const ANGLES: u64 = 2 * 2 * 25 * 256;
     pub const FIGURES: u64 = (6 * 40 + 2 * 10 + 2 * 16) * 256;
     pub const REFERENCES: u64 = 243;
+    pub const RECEIVERS: u64 = 9 * 3 * 12 * 12 + 6 + 36 + 216 + 1_296;
     pub const TWO_BYTES: u64 = 150_000;
     pub const DAMAGED: u64 = 40_000;
     pub const CUT: u64 = 10_000;
@@ -45,8 +46,16 @@ mod least {
     pub const PAD_RANDOM: u64 = 340_000;
 
     /// Check, rewrite and read each try these families.
-    const OF_FILES: u64 =
-        EVERY_BYTE + FILLED + ANGLES + FIGURES + REFERENCES + TWO_BYTES + DAMAGED + CUT + ORDER;
+    const OF_FILES: u64 = EVERY_BYTE
+        + FILLED
+        + ANGLES
+        + FIGURES
+        + REFERENCES
+        + RECEIVERS
+        + TWO_BYTES
+        + DAMAGED
+        + CUT
+        + ORDER;
     const ALL: u64 = 3 * OF_FILES
         + READ_RECORDS
         + 2 * CHARACTERS

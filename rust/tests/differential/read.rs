@@ -42,6 +42,14 @@ fn references() {
     assert!(sides.faults(0) > 100 && sides.faults(10) > 50);
 }
 
+/// A *70* by itself may have any number.
+#[test]
+fn receivers() {
+    let sides = read(files::receivers, least::RECEIVERS);
+    assert!(sides.faults(0) > 1_000 && sides.faults(9) > 1_000);
+    assert_eq!(sides.faults(10), 0);
+}
+
 #[test]
 fn two_bytes() {
     assert!(read(files::two_bytes, least::TWO_BYTES).faults(10) > 100);

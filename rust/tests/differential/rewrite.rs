@@ -34,6 +34,11 @@ fn references() {
 }
 
 #[test]
+fn receivers() {
+    assert!(rewritten(files::receivers, least::RECEIVERS) > 300);
+}
+
+#[test]
 fn two_bytes() {
     assert!(rewritten(files::two_bytes, least::TWO_BYTES) > 5_000);
 }

@@ -34,7 +34,7 @@ fn two_examples_are_accepted_and_one_has_lost_a_height() {
         .map(|text| text.lines().next().unwrap().to_owned())
         .collect();
     let expected = [
-        "FILE\t47\t0\t0\t0",
+        "FILE\t48\t0\t0\t0",
         "FILE\t34\t10\t30\t24",
         "FILE\t34\t0\t0\t0",
     ];

@@ -352,7 +352,7 @@ fn fault_9_for_a_bad_field() {
 }
 
 /// What is good although it may not look so.
-const GOOD_FIELDS: [(usize, usize, &str); 27] = [
+const GOOD_FIELDS: [(usize, usize, &str); 30] = [
     (2, 11, "\\"),
     (4, 11, "000101"),
     (4, 11, "202002"),
@@ -372,6 +372,10 @@ const GOOD_FIELDS: [(usize, usize, &str); 27] = [
     (7, 56, "   -0"),
     (13, 14, "  1"),
     (13, 23, "                  "),
+    // Instrument 7 again, in each dress.
+    (14, 11, "007"),
+    (14, 11, " 07"),
+    (14, 11, "  7"),
     (15, 17, "                "),
     (17, 15, "                              "),
     (17, 45, "00595959999"),
@@ -403,9 +407,10 @@ const DISAGREEING: [(usize, usize, &str, u64); 21] = [
     (7, 11, "0345", 11),
     (9, 11, "0013", 11),
     (11, 11, "0012", 11),
-    // Instruments 7 and 8, antennas 3 and 444: repeated, falling.
-    (14, 11, "007", 11),
+    // Instrument 7, then one below it.
+    (14, 11, "001", 11),
     (14, 11, "  6", 11),
+    // Antenna 3, then 3 again, and one below it.
     (16, 11, "  3", 11),
     (16, 11, "002", 11),
     // An *86* of another station.
@@ -451,9 +456,12 @@ fn fields_are_judged_from_the_left() {
     assert_eq!(verdict(&both), (10, 7, 11));
     // The sequence number goes before the station.
     assert_eq!(verdict(&with(&both, 7, 1, "000000")), (9, 7, 6));
-    // A falling instrument goes before its blanks.
-    let both = with(&with(&file, 14, 11, "007"), 14, 14, "xxx");
+    // A falling instrument goes before its equipment code, and one that
+    // repeats leaves it to be judged.
+    let both = with(&with(&file, 14, 11, "006"), 14, 14, "xxx");
     assert_eq!(verdict(&both), (10, 14, 11));
+    let equal = with(&both, 14, 11, "007");
+    assert_eq!(verdict(&equal), (9, 14, 14));
     // A code without height goes before a malformed pair, and after a
     // malformed height.
     let both = with(&with(&file, 20, 24, "A"), 20, 25, "1 ");

@@ -151,6 +151,65 @@ fn accuracies_are_rewritten_as_they_should_be() {
 }
 
 #[test]
+fn an_instrument_is_found_at_the_first_of_its_records() {
+    // How many *70*, and the words of instruments: number and record.
+    for (name, count, expected) in [
+        ("accepted_70_twice", 2, &[(7, 7)][..]),
+        ("accepted_70_twice_to_the_byte", 3, &[(7, 7), (8, 9)]),
+        ("accepted_70_three_in_other_dress", 4, &[(7, 7), (8, 10)]),
+        (
+            "accepted_70_repeated_at_the_ends",
+            7,
+            &[(1, 7), (7, 9), (999, 12)],
+        ),
+        ("accepted_25_of_a_repeated_70", 4, &[(7, 10), (8, 11)]),
+        ("accepted_70_a_thousand", 1_000, &[(7, 7), (8, 407)]),
+    ] {
+        let mut table = [0; TABLE_WORDS];
+        let checked = check(&data(&format!("{name}.bfile")), &mut table);
+        assert_eq!(checked.counts[7], count, "{name}");
+        let words = (0..1_000).map(|number| (number, table[10_000 + number]));
+        let found: Vec<(usize, u32)> = words.filter(|&(_, word)| word != 0).collect();
+        assert_eq!(found, expected, "{name}");
+    }
+}
+
+#[test]
+fn instruments_that_repeat_are_rewritten_as_they_should_be() {
+    for (name, first, expected) in [
+        ("accepted_70_twice", 7, &["007", "007"][..]),
+        (
+            "accepted_70_three_in_other_dress",
+            7,
+            &["007", "007", "007", "008"],
+        ),
+        (
+            "accepted_70_repeated_at_the_ends",
+            7,
+            &["001", "001", "007", "007", "007", "999", "999"],
+        ),
+        (
+            "accepted_25_of_a_repeated_70",
+            10,
+            &["007", "008", "008", "008"],
+        ),
+    ] {
+        let file = data(&format!("{name}.bfile"));
+        let rewritten = house(&file);
+        for (record, number) in (first..).zip(expected) {
+            assert_eq!(columns(&rewritten, record, 8, 6), format!("70*{number}"));
+            // Equipment code, maker, model and serial number stay in order.
+            let code = columns(&file, record, 14, 3).replace(' ', "0");
+            assert_eq!(columns(&rewritten, record, 14, 3), code);
+            assert_eq!(
+                columns(&rewritten, record, 17, 64),
+                columns(&file, record, 17, 64)
+            );
+        }
+    }
+}
+
+#[test]
 fn the_same_meaning_is_the_same_file() {
     let first = data("dress_house.bfile");
     let second = data("dress_other.bfile");

@@ -1,9 +1,10 @@
 //! Generated files, accepted and damaged.
 
 use crate::sample::{columns, house, verdict, ACCEPTED};
-use shelf::generate::{self, Dice, Mostly, DAMAGES, FEWEST};
+use shelf::generate::{self, Damage, Dice, Mostly, DAMAGES, FEWEST};
 use shelf::plain::layout::{long_texts, KINDS};
 use shelf::plain::{check, field, read, rewrite, write, Fault};
+use std::collections::BTreeMap;
 
 /// Accepted files of many sizes.
 fn files() -> impl Iterator<Item = Vec<u8>> {
@@ -174,7 +175,7 @@ fn the_table_names_each_definition() {
     for file in files() {
         let mut table = vec![0; 12_000];
         check(&file, &mut table);
-        let mut definitions = 0;
+        let mut defined = BTreeMap::new();
         for record in 1..=file.len() as u64 / 81 {
             let reading = read(&file, record).unwrap();
             let start = match reading.kind {
@@ -183,12 +184,64 @@ fn the_table_names_each_definition() {
                 9 => 0,
                 _ => continue,
             };
-            assert_eq!(u64::from(table[start + reading.values[0] as usize]), record);
-            definitions += 1;
+            let number = (start, reading.values[0]);
+            let first = *defined.entry(number).or_insert(record);
+            let word = table[start + reading.values[0] as usize];
+            assert_eq!(u64::from(word), first);
+            // Only a *70* may come again.
+            assert!(first == record || reading.kind == 7);
         }
         let used = table.iter().filter(|&&word| word != 0).count();
-        assert_eq!(used, definitions);
+        assert_eq!(used, defined.len());
     }
+}
+
+/// The lengths of the runs of *70* of one number, in the order of the file.
+fn runs(file: &[u8]) -> Vec<usize> {
+    let instruments: Vec<i64> = (1..=file.len() as u64 / 81)
+        .map(|record| read(file, record).unwrap())
+        .filter(|reading| reading.kind == 7)
+        .map(|reading| reading.values[0])
+        .collect();
+    let runs = instruments.chunk_by(|one, next| one == next);
+    runs.map(<[i64]>::len).collect()
+}
+
+#[test]
+fn instruments_have_one_two_three_and_many_records() {
+    let all: Vec<usize> = files().flat_map(|file| runs(&file)).collect();
+    for (lengths, least) in [(1..=1, 300), (2..=2, 100), (3..=3, 30), (4..=99, 20)] {
+        let count = all.iter().filter(|run| lengths.contains(*run)).count();
+        assert!(count > least, "{lengths:?}: {count}");
+    }
+    // The longest files have them too.
+    let long = runs(&generate::accepted(1, 99_999));
+    assert!((1..=3).all(|length| long.contains(&length)), "{long:?}");
+}
+
+/// Where a *70* disagrees it falls, by one or by more.
+#[test]
+fn a_damaged_instrument_falls() {
+    let mut falls = [0; 2];
+    for seed in 0..4_000 {
+        let good = generate::accepted(seed, 11 + seed as usize % 60);
+        let mut file = good.clone();
+        generate::damage(&mut Dice::new(seed), &mut file, Damage::Disagreeing);
+        let fault = check(&file, &mut vec![0; 12_000]).fault;
+        let instrument = |file: &[u8], record| match read(file, record).unwrap() {
+            reading if reading.kind == 7 => Some(reading.values[0]),
+            _ => None,
+        };
+        let changed = (1..=file.len() as u64 / 81)
+            .filter(|&record| instrument(&file, record) != instrument(&good, record));
+        for record in changed {
+            let [before, here] = [record - 1, record].map(|record| instrument(&file, record));
+            assert!(here < before, "seed {seed}");
+            assert_eq!((fault.number, fault.record, fault.column), (10, record, 11));
+            falls[usize::from(before > here.map(|number| number + 1))] += 1;
+        }
+    }
+    assert!(falls.iter().all(|&count| count > 50), "{falls:?}");
 }
 
 #[test]

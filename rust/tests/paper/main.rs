@@ -13,6 +13,7 @@ mod padding;
 mod pointing;
 mod published;
 mod reading;
+mod receivers;
 mod sample;
 mod sheet;
 mod slips;

@@ -59,6 +59,9 @@ fn places() -> Vec<(Vec<Vec<u8>>, Vec<&'static str>)> {
     place(&[measurement("0012")], "27");
     place(&[measurement("0012")], "27 25 70");
     place(&[instrument("007")], "70 72");
+    // As many *70* as there are, of one number too.
+    place(&[instrument("  7")], "70 72");
+    place(&[instrument("008")], "70 72");
     place(&[antenna("003")], "72 80");
     place(&[point("0012")], "86");
     place(&[no_heights("0012")], "80 91 92 93 A1");

@@ -13,7 +13,7 @@ fn their_values_with_their_units() {
     desk.put("net.b", &network());
     for (record, said) in [
         (
-            "40",
+            "41",
             "*91* network accuracy\n    \
              columns 1-6   sequence number                     missing\n    \
              columns 11-14 station                             104\n    \
@@ -25,7 +25,7 @@ fn their_values_with_their_units() {
              columns 66-80 comment                             \"one session    \"\n",
         ),
         (
-            "41",
+            "42",
             "*92* local accuracy\n    \
              columns 1-6   sequence number                     missing\n    \
              columns 11-14 standpoint station                  101\n    \
@@ -38,7 +38,7 @@ fn their_values_with_their_units() {
              columns 68-80 comment                             \"             \"\n",
         ),
         (
-            "46",
+            "47",
             "*93* variance factors\n    \
              columns 1-6   sequence number             missing\n    \
              columns 11-18 horizontal factor           1.386\n    \
@@ -301,12 +301,12 @@ fn refusal(desk: &Desk, record: usize, column: usize, station: &str) -> String {
 #[test]
 fn a_local_accuracy_of_a_station_to_itself() {
     let desk = Desk::new("itself");
-    let said = "net.b: refused, fault 10, record 41, column 17\n    \
+    let said = "net.b: refused, fault 10, record 42, column 17\n    \
                 a field well formed that disagrees with an earlier one: forepoint station in \
                 columns 17-20 must be another than the standpoint station in columns 11-14";
     for station in ["0101", " 101"] {
-        assert_eq!(refusal(&desk, 41, 17, station), said);
-        let shown = desk.run(&["show", "net.b", "41"]).ended(1).out;
+        assert_eq!(refusal(&desk, 42, 17, station), said);
+        let shown = desk.run(&["show", "net.b", "42"]).ended(1).out;
         assert!(shown.starts_with(said), "{shown}");
     }
 }
@@ -316,9 +316,9 @@ fn a_local_accuracy_of_a_station_to_itself() {
 fn undefined_stations() {
     let desk = Desk::new("undefined");
     for (record, column, name) in [
-        (37, 11, "station"),
-        (41, 11, "standpoint station"),
-        (41, 17, "forepoint station"),
+        (38, 11, "station"),
+        (42, 11, "standpoint station"),
+        (42, 17, "forepoint station"),
     ] {
         let last = column + 3;
         let said = format!(
@@ -333,18 +333,18 @@ fn undefined_stations() {
     }
 }
 
-/// The accuracies of the deposit, from record 37 on.
+/// The accuracies of the deposit, from record 38 on.
 const HOUSE: [&str; 10] = [
-    "000370*91*0101      00000000410000000038-0031077420000000132    Y               ",
-    "000380*91*0102      0000000046000000004400018940060000000151    Y               ",
-    "000390*91*0103      00000000400000000037-0025601180000000127    Y               ",
-    "000400*91*0104      0000000067000000005900112408530000000216    Yone session    ",
-    "000410*92*0101  0102  00000000330000000030-0001872030000000098    Y             ",
-    "000420*92*0101  0103  00000000290000000027-0040155290000000090    Y             ",
-    "000430*92*0101  0104  0000000054000000004700128033170000000173    Y             ",
-    "000440*92*0102  0103  0000000036000000003400007201640000000109    Y             ",
-    "000450*92*0103  0104  0000000055000000004900109924750000000178    Y             ",
-    "000460*93*0000138600002214free adjustment, 27 February 2024                     ",
+    "000380*91*0101      00000000410000000038-0031077420000000132    Y               ",
+    "000390*91*0102      0000000046000000004400018940060000000151    Y               ",
+    "000400*91*0103      00000000400000000037-0025601180000000127    Y               ",
+    "000410*91*0104      0000000067000000005900112408530000000216    Yone session    ",
+    "000420*92*0101  0102  00000000330000000030-0001872030000000098    Y             ",
+    "000430*92*0101  0103  00000000290000000027-0040155290000000090    Y             ",
+    "000440*92*0101  0104  0000000054000000004700128033170000000173    Y             ",
+    "000450*92*0102  0103  0000000036000000003400007201640000000109    Y             ",
+    "000460*92*0103  0104  0000000055000000004900109924750000000178    Y             ",
+    "000470*93*0000138600002214free adjustment, 27 February 2024                     ",
 ];
 
 #[test]
@@ -353,10 +353,10 @@ fn their_house_style() {
     let file = network();
     desk.put("net.b", &file);
     let ran = desk.run(&["rewrite", "net.b", "out.b"]).ended(0);
-    let said = "net.b: accepted, 47 records written to out.b\n";
+    let said = "net.b: accepted, 48 records written to out.b\n";
     assert_eq!((&ran.out[..], &ran.err[..]), (said, ""));
-    let before = String::from_utf8(file[..81 * 36].to_vec()).unwrap();
-    let behind = String::from_utf8(file[81 * 46 + 6..].to_vec()).unwrap();
-    let expected = format!("{before}{}\n000470{behind}", HOUSE.join("\n"));
+    let before = String::from_utf8(file[..81 * 37].to_vec()).unwrap();
+    let behind = String::from_utf8(file[81 * 47 + 6..].to_vec()).unwrap();
+    let expected = format!("{before}{}\n000480{behind}", HOUSE.join("\n"));
     assert_eq!(String::from_utf8(desk.get("out.b")).unwrap(), expected);
 }

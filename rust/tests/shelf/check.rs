@@ -1,5 +1,6 @@
 //! `shelf check`
 
+use crate::deposits::network;
 use crate::desk::{house, Desk};
 use shelf::{generate, sample};
 use std::ffi::OsStr;
@@ -123,6 +124,31 @@ fn every_fault_in_words() {
         let last = ran.out.lines().last().unwrap();
         let pointed = last.ends_with('^').then(|| last.len() - 4);
         assert_eq!(pointed, caret, "{}", ran.out);
+    }
+}
+
+/// Records 25 and 26 of the deposit are of receiver 13, 24 is of 12.
+#[test]
+fn a_receiver_of_two_records_and_one_that_falls() {
+    let desk = Desk::new("receivers");
+    desk.put("net.b", &network());
+    let ran = desk.run(&["check", "net.b"]).ended(0);
+    assert_eq!(
+        ran.out,
+        "net.b: accepted, 48 records: AA 2 10 1 12 1 25 6 26 1 27 12 70 4 72 3 80 4 86 4 91 4 \
+         92 5 93 1\n"
+    );
+    for number in ["012", " 12", "  1"] {
+        desk.put("net.b", &sample::with(&network(), 26, 11, number));
+        let ran = desk.run(&["check", "net.b"]).ended(1);
+        let record = format!("000260*70*{number}113      LEICA GEOSYSTEMS{:24}", "");
+        let expected = format!(
+            "net.b: refused, fault 10, record 26, column 11\n    a field well formed that \
+             disagrees with an earlier one: instrument in columns 11-13 must be not below the \
+             instrument of the *70* before it\n    {record}GS18    3701188   \n    {:>11}\n",
+            '^'
+        );
+        assert_eq!(ran.out, expected);
     }
 }
 

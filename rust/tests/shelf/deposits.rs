@@ -21,8 +21,9 @@ pub fn height_lost() -> Vec<u8> {
     stored("tuburan-bay-height-lost.bfile")
 }
 
-/// A deposit of 47 records; 37 to 46 are accuracies as an adjustment leaves
-/// them, with blanks in front and without sequence numbers.
+/// A deposit of 48 records. 25 and 26 are the *70* of one receiver; 38 to 47
+/// are accuracies as an adjustment leaves them, with blanks in front and
+/// without sequence numbers.
 pub fn network() -> Vec<u8> {
     stored("bantilan-ridge.bfile")
 }

@@ -236,7 +236,7 @@ static FIELDS: [&[Field]; 14] = [
         blank(61, 80),
     ],
     &[
-        equipment(11, "instrument").agreeing("above the instrument of the *70* before it"),
+        equipment(11, "instrument").agreeing("not below the instrument of the *70* before it"),
         equipment(14, "equipment code"),
         blank(17, 22),
         text(23, 40, "manufacturer"),

@@ -1,5 +1,5 @@
 use borrow.Author.Needs.{needs}
-use Rattle.judging.proofs.FieldLaws.{met-any, met-same, met-above}
+use Rattle.judging.proofs.FieldLaws.{met-any, met-same, met-not-below, met-above}
 use Rattle.judging.proofs.fields.is_met.Statement.{statement}
 use Rattle.judging.proofs.fields.is_met.Tie as tie
 
@@ -13,6 +13,9 @@ is-met-spec =
     (λ c. search needs)
     (λ c κs. search needs)
     (λ c. search needs)
+    (λ c κs. search needs)
+    (λ c. search needs)
     (λ c. search (met-any, needs))
     (λ c. search (met-same, needs))
+    (λ c. search (met-not-below, needs))
     (λ c. search (met-above, needs)))
