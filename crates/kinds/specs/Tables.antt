@@ -1,7 +1,7 @@
 -- The code's tables: the layouts of `rules` with names of the code's own for what stands in each field and what it agrees with.
 use mathlib.Core.Bool.{true, false}
 use mathlib.Core.List.{List, [], _∷_, _++_, map}
-use Prim.Native.Nat.{ℕ}
+use Prim.Native.Nat.{ℕ, _+_}
 use lib.ListN.{getD}
 use Rattle.rules.specs.Items.{each, orBlank, blank, constant, number, height, angle, month, media, word}
 use Rattle.rules.specs.Items as rules
@@ -97,6 +97,12 @@ rowLists =
     ∷ (row I.Station 11 4 ∷ row I.Blank 15 2 ∷ tied I.Station 17 4 T.Standpoint ∷ row I.Blank 21 2 ∷ row I.Deviation 23 10 ∷ row I.Deviation 33 10 ∷ row I.Correlation 43 10 ∷ row I.Deviation 53 10 ∷ row I.Blank 63 4 ∷ row I.YesNo 67 1 ∷ row I.Printable 68 13 ∷ [])
     ∷ (row I.Variance 11 8 ∷ row I.Variance 19 8 ∷ row I.Printable 27 54 ∷ [])
     ∷ []
+
+-- what *91* and *92* have in common, from column c on
+abbrev pub accuracyRows : ℕ → List Row
+accuracyRows c =
+    row I.Deviation c 10 ∷ row I.Deviation (c + 10) 10 ∷ row I.Correlation (c + 20) 10 ∷ row I.Deviation (c + 30) 10
+    ∷ row I.Blank (c + 40) 4 ∷ row I.YesNo (c + 44) 1 ∷ []
 
 abbrev pub concat : List (List Row) → List Row
 concat [] = []

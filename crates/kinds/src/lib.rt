@@ -3,6 +3,7 @@ use columns::Four;
 use columns::Height;
 use columns::Media;
 
+pub mod accuracies;
 pub mod tables;
 
 ghost use mathlib.Core.Path.{_≡_};

@@ -22,7 +22,7 @@ use Rattle.kinds.specs.declared.Written.{Written}
 use Rattle.kinds.specs.Values.{sequenceValue, sequenceOf, kindNumber, meaningOf, recordOf, writtenOf}
 use Rattle.kinds.proofs.ValueLaws.{sequence-back, record-back}
 use Rattle.writing.specs.Promise.{Promised}
-use Rattle.writing.proofs.GivenLaws.{given-kind}
+use Rattle.writing.proofs.LineLaws.{given-kind}
 
 done-ok : (v : Verdict) → writtenOf v ≡ Written.Done → v ≡ ok
 unfolding writtenOf

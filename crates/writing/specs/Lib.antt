@@ -1,6 +1,2 @@
--- What write promises, and the definitions that the promises of the parts cite beside those of `rules` and `kinds`.
-pub mod Accuracies
-pub mod Judging
-pub mod Laying
-pub mod Styling
+-- What write promises.
 pub mod Promise

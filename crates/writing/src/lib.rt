@@ -1,20 +1,15 @@
 // One record of 81 bytes from values. The values are judged first and laid into the output only when all are good, so that a
 // refusal leaves the output as it was.
+use given_records::records::judge_given;
 use kinds::Fault;
 use kinds::Judged;
 use kinds::Record;
 use kinds::Sequence;
 use kinds::Written;
 
-mod accuracies;
-mod judging;
-mod laying;
 mod lines;
-mod records;
-pub mod styles;
 
 use lines::lay_line;
-use records::judge_given;
 ghost use Rattle.writing.specs.Promise.{Promised};
 
 // Texts of more than four columns are given beside the record, in column order; a record that has fewer takes no notice of the rest.

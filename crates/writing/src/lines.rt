@@ -1,20 +1,8 @@
 // The fields of each kind of record, laid into a line from the left, blanks included: nothing of what the line held is left.
-use crate::accuracies::lay_accuracy;
-use crate::laying::lay_angle;
-use crate::laying::lay_blank;
-use crate::laying::lay_count;
-use crate::laying::lay_four;
-use crate::laying::lay_height;
-use crate::laying::lay_media;
-use crate::laying::lay_number;
-use crate::laying::lay_one;
-use crate::laying::lay_text;
-use crate::laying::lay_three;
-use crate::laying::lay_two;
-use crate::records::count_of;
 use columns::Four;
 use columns::Height;
 use columns::Way;
+use given_records::records::count_of;
 use kinds::Antenna;
 use kinds::Comment;
 use kinds::Continuation;
@@ -31,9 +19,28 @@ use kinds::Project;
 use kinds::Record;
 use kinds::Sequence;
 use kinds::Title;
+use kinds::accuracies::CORRELATION;
+use kinds::accuracies::EAST;
+use kinds::accuracies::ELLIPSOID;
+use kinds::accuracies::SCALED;
+use kinds::accuracies::SPACER;
+use styling::laying::lay_angle;
+use styling::laying::lay_blank;
+use styling::laying::lay_count;
+use styling::laying::lay_four;
+use styling::laying::lay_height;
+use styling::laying::lay_long;
+use styling::laying::lay_media;
+use styling::laying::lay_number;
+use styling::laying::lay_one;
+use styling::laying::lay_signed;
+use styling::laying::lay_text;
+use styling::laying::lay_three;
+use styling::laying::lay_two;
 ghost use mathlib.Core.Path.{_≡_};
 ghost use mathlib.Core.Bool.{true};
 ghost use mathlib.Core.List.{[]};
+ghost use Prim.Native.Nat.{_+_, _≤_};
 ghost use lib.ListN.{length, take, drop};
 ghost use Rattle.rules.specs.Items.{fits, angle, latitude, longitude, media, num};
 ghost use Rattle.rules.specs.Fields.{isOk, entriesOf, formed};
@@ -43,7 +50,9 @@ ghost use Rattle.rules.specs.Chapter4.{chapter4};
 ghost use Rattle.columns.specs.Types.{mediaValue, fourOf};
 ghost use Rattle.kinds.specs.Values.{sequenceValue, kindNumber, codeOf, meaningOf, valuesOf};
 ghost use Rattle.kinds.specs.declared.Record.the-variants as R;
-ghost use Rattle.writing.specs.Laying.{layFields, layoutOf};
+ghost use Rattle.given_records.specs.Accuracies.{accuracyFields, accuracyValues};
+ghost use Rattle.given_records.specs.Judging.{layoutOf};
+ghost use Rattle.styling.specs.Laying.{layFields};
 
 fn lay_project(line: &mut [u8], p: Project, a: &[u8], b: &[u8])
     ensures { λ _. ⌜ now (line .exit) ≡ layFields project (valuesOf (R.Project p) (now (a .entry)) (now (b .entry)) []) (now (line .entry)) ⌝ }
@@ -218,6 +227,32 @@ fn lay_heights(line: &mut [u8], h: Heights, a: &[u8], b: &[u8])
 {
     lay_orthometric(line, h, a);
     lay_other_heights(line, h, b);
+}
+
+// What *91* and *92* have in common, from column `first` on.
+fn lay_accuracy(
+    line: &mut [u8],
+    north: u64,
+    east: u64,
+    correlation: i64,
+    ellipsoid: u64,
+    scaled: u8,
+    first: usize,
+)
+    requires { ⌜ first + 44 ≤ 80 ⌝ }
+    ensures { λ _. ⌜ now (line .exit) ≡ layFields (accuracyFields first) (accuracyValues north east correlation ellipsoid scaled) (now (line .entry)) ⌝ }
+{
+    lay_long(line, first, Network::NORTH_WIDTH, north);
+    lay_long(line, first + EAST, Network::EAST_WIDTH, east);
+    lay_signed(
+        line,
+        first + CORRELATION,
+        Network::CORRELATION_WIDTH,
+        correlation,
+    );
+    lay_long(line, first + ELLIPSOID, Network::ELLIPSOID_WIDTH, ellipsoid);
+    lay_blank(line, first + SPACER, Network::SECOND_SPACER_WIDTH);
+    lay_one(line, first + SCALED, scaled);
 }
 
 fn lay_network(line: &mut [u8], n: Network, a: &[u8])

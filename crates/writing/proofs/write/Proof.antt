@@ -1,7 +1,7 @@
 -- Room, then the judge, then the line.
 use borrow.Author.Needs.{needs}
 use lib.Seq.{length-take-le}
-use Rattle.writing.proofs.GivenLaws.{judged-good, write-short, write-bad, write-good}
+use Rattle.writing.proofs.LineLaws.{judged-good, write-short, write-bad, write-good}
 use Rattle.writing.proofs.write.Statement.{statement}
 use Rattle.writing.proofs.write.Tie as tie
 

@@ -2,10 +2,10 @@
 use mathlib.Core.Path.{ap, _∙_}
 use borrow.Author.Needs.{needs}
 use lib.ListN.{length}
-use Rattle.writing.proofs.LayLaws.{fields-length}
+use Rattle.styling.proofs.LayLaws.{fields-length}
 use Rattle.rules.specs.Items.{render, onNumber, onText, onGap}
 use Rattle.kinds.specs.Values.{valuesOf}
-use Rattle.writing.specs.Laying.{layFields}
+use Rattle.styling.specs.Laying.{layFields}
 use Rattle.writing.proofs.lines.lay_antenna.Statement.{statement}
 use Rattle.writing.proofs.lines.lay_antenna.Tie as tie
 

@@ -2,7 +2,7 @@
 use borrow.Author.Needs.{needs}
 use Rattle.rules.specs.Items.{render, onNumber, onText, onGap}
 use Rattle.kinds.specs.Values.{valuesOf}
-use Rattle.writing.specs.Laying.{layFields}
+use Rattle.styling.specs.Laying.{layFields}
 use Rattle.writing.proofs.lines.lay_factor.Statement.{statement}
 use Rattle.writing.proofs.lines.lay_factor.Tie as tie
 

@@ -1,7 +1,7 @@
 -- Field after field: each is laid over what those before it have left.
 use borrow.Author.Needs.{needs}
 use Rattle.kinds.specs.Values.{valuesOf}
-use Rattle.writing.specs.Laying.{layFields}
+use Rattle.styling.specs.Laying.{layFields}
 use Rattle.writing.proofs.lines.lay_heights.Statement.{statement}
 use Rattle.writing.proofs.lines.lay_heights.Tie as tie
 

@@ -1,6 +1,6 @@
 -- Sequence number, code, fields, line feed.
 use borrow.Author.Needs.{needs}
-use Rattle.writing.proofs.GivenLaws.{given-formed, given-laid, sequence-count}
+use Rattle.writing.proofs.LineLaws.{given-formed, given-laid, sequence-count}
 use Rattle.kinds.specs.Values.{sequenceValue}
 use Rattle.writing.proofs.lines.lay_line.Statement.{statement}
 use Rattle.writing.proofs.lines.lay_line.Tie as tie

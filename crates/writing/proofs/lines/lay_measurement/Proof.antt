@@ -5,7 +5,7 @@ use Rattle.rules.specs.Items.{render, onNumber, onText, onGap}
 use Rattle.columns.specs.Types.{heightValue}
 use Rattle.columns.specs.Leaves.{heightColumns}
 use Rattle.kinds.specs.Values.{valuesOf}
-use Rattle.writing.specs.Laying.{lay, layFields}
+use Rattle.styling.specs.Laying.{lay, layFields}
 use mathlib.Core.Bool.{false}
 use mir.Syntax.{w32}
 use mir.Val.{toZ, ofZ}

@@ -6,8 +6,8 @@ use mir.Val.{toZ, ofZ}
 use Rattle.rules.specs.Items.{render, onNumber, onText, onGap}
 use Rattle.kinds.specs.Tables.{fieldOf}
 use Rattle.kinds.specs.Values.{valuesOf}
-use Rattle.writing.specs.Accuracies.{accuracyFields, accuracyValues}
-use Rattle.writing.specs.Laying.{layFields}
+use Rattle.given_records.specs.Accuracies.{accuracyFields, accuracyValues}
+use Rattle.styling.specs.Laying.{layFields}
 use Rattle.writing.proofs.lines.lay_network.Statement.{statement}
 use Rattle.writing.proofs.lines.lay_network.Tie as tie
 

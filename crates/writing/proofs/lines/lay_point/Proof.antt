@@ -2,11 +2,11 @@
 use mathlib.Core.Path.{_≡_, refl, ap, _∙_}
 use borrow.Author.Needs.{needs}
 use lib.ListN.{length}
-use Rattle.writing.proofs.LayLaws.{fields-length}
+use Rattle.styling.proofs.LayLaws.{fields-length}
 use Rattle.rules.specs.Items.{render, onNumber, onText, onGap}
 use Rattle.columns.specs.Types.{wayOf}
 use Rattle.kinds.specs.Values.{valuesOf}
-use Rattle.writing.specs.Laying.{lay, layFields}
+use Rattle.styling.specs.Laying.{lay, layFields}
 use Rattle.rules.specs.Items.{width, columns, angle, fits, num, latitude, longitude}
 use mir.Syntax.{w64}
 use mir.Val.{toZ, ofZ}

@@ -1,10 +1,11 @@
 -- One arm for each kind.
 use borrow.Author.Needs.{needs}
-use Rattle.writing.proofs.GivenLaws.{media-fitting, angles-fitting}
+use Rattle.writing.proofs.LineLaws.{media-fitting, angles-fitting}
 use Rattle.rules.specs.Items.{render, onText}
 use Rattle.rules.specs.Layouts.{layouts}
 use Rattle.kinds.specs.Values.{kindNumber, valuesOf}
-use Rattle.writing.specs.Laying.{layFields, layoutOf}
+use Rattle.given_records.specs.Judging.{layoutOf}
+use Rattle.styling.specs.Laying.{layFields}
 use Rattle.writing.proofs.lines.lay_values.Statement.{statement}
 use Rattle.writing.proofs.lines.lay_values.Tie as tie
 

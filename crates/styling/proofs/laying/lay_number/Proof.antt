@@ -1,0 +1,12 @@
+use borrow.Author.Needs.{needs}
+use Rattle.rules.specs.Items.{render, onNumber}
+use Rattle.columns.specs.Types.{countValue}
+use Rattle.styling.proofs.laying.lay_number.Statement.{statement}
+use Rattle.styling.proofs.laying.lay_number.Tie as tie
+
+returns : tie.Need-returns
+unfolding render onNumber countValue
+returns c = c .before .before .lay-count .ensures
+
+pub lay-number-spec : {M : Type 1} → statement M
+lay-number-spec = tie.close (tie.spec (λ c κs. search needs) (λ c. search needs) returns)

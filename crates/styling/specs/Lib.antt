@@ -1,0 +1,3 @@
+-- The definitions that the promises cite beside those of `rules` and `kinds`.
+pub mod Laying
+pub mod Styling

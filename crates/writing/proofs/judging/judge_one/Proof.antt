@@ -1,6 +1,0 @@
-use borrow.Author.Needs.{needs}
-use Rattle.writing.proofs.judging.judge_one.Statement.{statement}
-use Rattle.writing.proofs.judging.judge_one.Tie as tie
-
-pub judge-one-spec : {M : Type 1} → statement M
-judge-one-spec = tie.close (tie.spec (λ c. search needs) (λ c κs. search needs) (λ c. c .judge-text .ensures))
