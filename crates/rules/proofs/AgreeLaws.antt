@@ -193,10 +193,12 @@ module _ (e : Expect) (l : List ℕ) where
     pub met : agreeing e (entries chapter4 l) ≡ true → meets e (numberAt 11 (meaning chapter4 l)) ≡ true
     met h = subst (λ n. meets e n ≡ true) (number-at l 11) (unfold entries in met-first l e (layout (codeAt l)) lead (unfold entries in h))
 
+    pub waits-at : (d : Field) → d ∈ layout (codeAt l) → d .bond ≡ expected → numOf (valueOf (d .item) (columnsOf d l)) ≡ numberAt 11 (meaning chapter4 l)
+    waits-at d m b =
+        let same : valueOf (d .item) (columnsOf d l) ≡ valueAt 11 (entries chapter4 l) = unfold entries in waiting l (layout (codeAt l)) lead d m b in ap numOf same ∙ number-at l 11
+
     pub waits-met : meets e (numberAt 11 (meaning chapter4 l)) ≡ true → (d : Field) → d ∈ layout (codeAt l) → d .bond ≡ expected → meets e (numOf (valueOf (d .item) (columnsOf d l))) ≡ true
-    waits-met h d m b =
-        let same : valueOf (d .item) (columnsOf d l) ≡ valueAt 11 (entries chapter4 l) = unfold entries in waiting l (layout (codeAt l)) lead d m b in
-        subst (λ n. meets e n ≡ true) (sym (number-at l 11) ∙ ap numOf (sym same)) h
+    waits-met h d m b = subst (λ n. meets e n ≡ true) (sym (waits-at d m b)) h
 
     pub number-from-1 : formed (entries chapter4 l) ≡ true → 1 ≤ numberAt 11 (meaning chapter4 l)
     number-from-1 h = subst (λ n. 1 ≤ n) (number-at l 11) (unfold entries in one-first l (layout (codeAt l)) lead (unfold entries in h))

@@ -111,7 +111,7 @@ module _ (s : Past) (c : List ℕ) where
   unfolding expectation _=?_
   expects-86 e = rw e
 
-  expects-70 : kindOf c ≡ *70* → expectation s c ≡ notBelow (s .instrument)
+  pub expects-70 : kindOf c ≡ *70* → expectation s c ≡ notBelow (s .instrument)
   unfolding expectation _=?_
   expects-70 e = rw e
 
@@ -136,7 +136,7 @@ module _ (f : List ℕ) (i : ℕ) where
   unfolding waiting-kinds _∈_
   waits-27 e = inl e
 
-  waits-70 : kindAt f i ≡ *70* → kindAt f i ∈ waiting-kinds
+  pub waits-70 : kindAt f i ≡ *70* → kindAt f i ∈ waiting-kinds
   unfolding waiting-kinds _∈_
   waits-70 e = inr (inl e)
 

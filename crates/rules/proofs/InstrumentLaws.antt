@@ -1,24 +1,36 @@
 -- 02, T-04, "standing together": it needs no rule of its own. The order keeps the *70* records of a file together, and numbers that never fall cannot come back.
+-- "10 on a *70* is now given only when the number falls": of its fields only the number has to agree with anything.
 use mathlib.Core.Path.{_≡_, refl, sym, _∙_, ap, subst}
-use mathlib.Core.Logic.{inl, inr}
-use mathlib.Core.Bool.{Bool, true, cond}
-use mathlib.Core.List.{List, []}
+use mathlib.Core.Logic.{inl, inr, _↔_}
+use mathlib.Core.Bool.{Bool, true, false, cond, true≢false}
+use mathlib.Core.List.{List, [], _∷_, map}
 use Prim.Native.Nat.{ℕ, zero, suc, _+_, _-_, _≤_, _<_}
 use native.Mathlib.Omega.{arith}
-use lib.ListN.{length, getD, length-map}
+use lib.ListN.{length, take, drop, getD, length-map}
 use Rattle.rules.specs.Tests.{all, _&_, _≤?_, _=?_}
 use Rattle.rules.specs.Members.{_∈_}
+use Rattle.rules.specs.Items.{width, valueOf, good}
+use Rattle.rules.specs.Fields.{free, expected, Field, Expect, notBelow, Entry, columnsOf, read, numOf, meets, agreesWith, agrees}
+use Rattle.rules.specs.Layouts.{tied, instrument, receiver, layouts, layout}
 use Rattle.rules.specs.Forms.{Code}
-use Rattle.rules.specs.Records.{codeAt, meaning}
-use Rattle.rules.specs.Files.{lineAt, begun, lines, meanings}
+use Rattle.rules.specs.Records.{Meaning, codeAt, entries, meaning}
+use Rattle.rules.specs.Files.{refuse, lineAt, begun, lines, meanings}
+use Rattle.rules.specs.Faults.{Some, FieldFaults, stage, phase, FirstOf, LineFaults, RecordFaults, before, HasFault, CallFaults}
+use Rattle.rules.specs.Calls.{answer, outcome}
 use Rattle.rules.specs.Kinds.{kindOf, *AA*, *70*}
 use Rattle.rules.specs.Order.{mayCome, placeNamed, lastJob}
 use Rattle.rules.specs.References.{asked, numberAt, blankRecord, Defines}
-use Rattle.rules.specs.Chapter4.{chapter4}
-use Rattle.rules.specs.Conforms.{kindAt, recordAt, Place, Conforms}
-use Rattle.rules.proofs.Truth.{all-members, map-at, to≤, of≤, no≤, of≢, cases, either, under, tried, below-or-equal}
+use Rattle.rules.specs.Chapter4.{expectation, chapter4}
+use Rattle.rules.specs.Conforms.{kindAt, recordAt, Falls, Place, Conforms}
+use Rattle.rules.proofs.Truth.{all-members, map-at, to≤, of≤, no≤, of≢, is-no, cases, either, under, tried, below-or-equal}
 use Rattle.rules.proofs.FileLaws.{records, line-at}
+use Rattle.rules.proofs.FileFaults.{late-phase, first-outcome}
 use Rattle.rules.proofs.ReferenceLaws.{when-asked}
+use Rattle.rules.proofs.Chapter4Laws.{sound, sound-refs}
+use Rattle.rules.proofs.PointLaws.{not-bytes, answer-refuses}
+use Rattle.rules.proofs.Keeping.{nearest-one, Kept, instrument-is}
+use Rattle.rules.proofs.AgreeLaws.{lead-of, waits-at}
+use Rattle.rules.proofs.Conforming.{expects-70, waits-70}
 
 -- a kind by its place in the order of records: a job code that does not open the file is behind all others
 unfoldable rank : ℕ → ℕ
@@ -129,3 +141,129 @@ module _ (f : List ℕ) (c : Conforms f) where
 
       number-in : (y : ℕ) → y < begun f → numberAt 11 (getD (meanings chapter4 f) y blankRecord) ≡ n → numberAt 11 (recordAt f y) ≡ n
       number-in y h e = sym (ap (numberAt 11) (record-is y h)) ∙ e
+
+-- ---- 10 on a *70*: its number waits on the records before, its other fields on nothing
+receiver-of : (c : List ℕ) → kindOf c ≡ *70* → layout c ≡ receiver
+unfolding layout layouts
+receiver-of c e = rw e
+
+-- fields that have to agree with nothing
+unfoldable Loose : List Field → Type 0
+Loose [] = Unit {0}
+Loose (d ∷ ds) = (d .bond ≡ free) × Loose ds
+
+others-loose : Loose (drop 1 receiver)
+unfolding Loose
+others-loose = (refl, (refl, (refl, (refl, (refl, (refl, tt))))))
+
+module _ (e : Expect) (xs : List Entry) (l : List ℕ) (c : ℕ) where
+  none-loose : (fs : List Field) → Loose fs → Some (FieldFaults e xs) (map (read l) fs) 10 c → ⊥
+  unfolding Loose Some read agrees agreesWith
+  none-loose [] h x = x
+  none-loose (d ∷ ds) h (inl (inl x)) = omega (arith, x .1)
+  none-loose (d ∷ ds) h (inl (inr x)) = true≢false (rw (h .0) at (x .1 .0))
+  none-loose (d ∷ ds) h (inr x) = none-loose ds (h .1) x
+
+  in-number : Some (FieldFaults e xs) (map (read l) receiver) 10 c
+      ↔ ((c ≡ 11) × (good instrument (take 3 (drop 10 l)) ≡ true) × (meets e (numOf (valueOf instrument (take 3 (drop 10 l)))) ≡ false))
+  unfolding Some read agrees agreesWith columnsOf width
+  in-number = (by, (λ x. inl (inr (x .1, (x .2, refl, x .0)))))
+    where
+      by : Some (FieldFaults e xs) (map (read l) receiver) 10 c → (c ≡ 11) × (good instrument (take 3 (drop 10 l)) ≡ true) × (meets e (numOf (valueOf instrument (take 3 (drop 10 l)))) ≡ false)
+      by (inl (inl x)) = absurd (omega (arith, x .1))
+      by (inl (inr x)) = (x .1 .2, x .0, x .1 .0)
+      by (inr x) = absurd (none-loose (drop 1 receiver) others-loose x)
+
+phase-10 : phase 10 ≡ 1
+unfolding phase stage _=?_ _≤?_
+phase-10 = refl
+
+module _ (f : List ℕ) (i c : ℕ) where
+  -- what goes before asks of record i + 1
+  expected-here : Expect
+  expected-here = expectation (before chapter4 f i) (codeAt (lineAt f i))
+
+  -- the faults 10 at column c of some of its fields
+  Tens : List Field → Type 0
+  Tens fs = Some (FieldFaults expected-here (entries chapter4 (lineAt f i))) (map (read (lineAt f i)) fs) 10 c
+
+  in-line : LineFaults chapter4 (before chapter4 f i) (lineAt f i) 10 c → Tens (layout (codeAt (lineAt f i)))
+  unfolding LineFaults Tens expected-here entries
+  in-line (inl x) = absurd (not-bytes (lineAt f i) 10 c (omega arith) x)
+  in-line (inr (inl x)) = absurd (omega (arith, x .1))
+  in-line (inr (inr (inl x))) = absurd (omega (arith, x .1))
+  in-line (inr (inr (inr (inl x)))) = absurd (omega (arith, x .1))
+  in-line (inr (inr (inr (inr x)))) = x
+
+  -- a 10 of record i + 1 is one of its fields'
+  in-fields : HasFault chapter4 f 10 (i + 1) c ↔ ((i < begun f) × Tens (layout (codeAt (lineAt f i))))
+  unfolding HasFault RecordFaults LineFaults Tens expected-here entries
+  in-fields = (by, (λ x. inl (i, x .0, refl, inr (inr (inr (inr (inr (x .1))))))))
+    where
+      by : HasFault chapter4 f 10 (i + 1) c → (i < begun f) × Tens (layout (codeAt (lineAt f i)))
+      by (inl (x, l, e, inl y)) = absurd (omega (arith, y .1))
+      by (inl (x, l, e, inr y)) = (omega arith, in-line (subst (λ z. LineFaults chapter4 (before chapter4 f z) (lineAt f z) 10 c) (omega arith) y))
+      by (inr (inl x)) = absurd (omega (arith, x .1))
+      by (inr (inr x)) = absurd (omega (arith, late-phase _ (sound-refs .late _ _ _) 10 c (x .3), phase-10))
+
+  module _ (k : kindAt f i ≡ *70*) where
+    expects : expected-here ≡ notBelow (before chapter4 f i .instrument)
+    unfolding expected-here kindAt
+    expects = expects-70 (before chapter4 f i) (codeAt (lineAt f i)) k
+
+    its-number : numOf (valueOf instrument (take 3 (drop 10 (lineAt f i)))) ≡ numberAt 11 (recordAt f i)
+    unfolding recordAt columnsOf width kindAt
+    its-number = waits-at expected-here (lineAt f i) (lead-of (codeAt (lineAt f i)) (waits-70 f i k)) (tied 11 instrument expected) first-field refl
+      where
+        first-field : tied 11 instrument expected ∈ layout (codeAt (lineAt f i))
+        first-field = rw (receiver-of (codeAt (lineAt f i)) k) (unfold _∈_ in inl refl)
+
+    below : i < begun f → (before chapter4 f i .instrument ≤? numberAt 11 (recordAt f i) ≡ false) ↔ Falls f i
+    unfolding Falls Kept
+    below h = ((λ x. falls (instrument-is f i (omega arith)) (no≤ x)), (λ x. fails x (instrument-is f i (omega arith))))
+      where
+        falls : Kept f *70* *70* (before chapter4 f i .instrument) i → numberAt 11 (recordAt f i) < before chapter4 f i .instrument → Falls f i
+        falls (inl x) l = absurd (omega (arith, x .0))
+        falls (inr x) l = (x .0, x .1, omega (arith, x .2))
+
+        fails : Falls f i → Kept f *70* *70* (before chapter4 f i .instrument) i → before chapter4 f i .instrument ≤? numberAt 11 (recordAt f i) ≡ false
+        fails y (inl x) = absurd (x .1 (y .0) (y .1))
+        fails y (inr x) = is-no _ (λ z. omega (arith, to≤ z, y .2, x .2, ap (λ w. numberAt 11 (recordAt f w)) (nearest-one f *70* *70* i (y .0) (x .0) (y .1) (x .1))))
+
+    not-met : i < begun f → (meets expected-here (numOf (valueOf instrument (take 3 (drop 10 (lineAt f i))))) ≡ false) ↔ Falls f i
+    unfolding meets
+    not-met h = rw (expects, its-number) (below h)
+
+    -- 10 on a *70*: exactly at its number, where that is of its form and falls
+    pub falls-iff : HasFault chapter4 f 10 (i + 1) c ↔ ((i < begun f) × (c ≡ 11) × (good instrument (take 3 (drop 10 (lineAt f i))) ≡ true) × Falls f i)
+    unfolding Tens
+    falls-iff = (to, from)
+      where
+        to : HasFault chapter4 f 10 (i + 1) c → (i < begun f) × (c ≡ 11) × (good instrument (take 3 (drop 10 (lineAt f i))) ≡ true) × Falls f i
+        to x =
+            let y = in-fields .0 x in
+            let z = in-number expected-here (entries chapter4 (lineAt f i)) (lineAt f i) c .0 (subst Tens (receiver-of (codeAt (lineAt f i)) (unfold kindAt in k)) (y .1)) in
+            (y .0, z .0, z .1, not-met (y .0) .0 (z .2))
+
+        from : (i < begun f) × (c ≡ 11) × (good instrument (take 3 (drop 10 (lineAt f i))) ≡ true) × Falls f i → HasFault chapter4 f 10 (i + 1) c
+        from x =
+            in-fields .1 (x .0, subst Tens (sym (receiver-of (codeAt (lineAt f i)) (unfold kindAt in k))) (in-number expected-here (entries chapter4 (lineAt f i)) (lineAt f i) c .1 (x .1, x .2, not-met (x .0) .1 (x .3))))
+
+-- ---- what check and rewrite answer
+from-record-1 : (f : List ℕ) (r c : ℕ) → HasFault chapter4 f 10 r c → 1 ≤ r
+unfolding HasFault
+from-record-1 f r c (inl x) = omega (arith, x .2)
+from-record-1 f r c (inr (inl x)) = omega (arith, x .2)
+from-record-1 f r c (inr (inr x)) = omega (arith, x .2)
+
+refused-falls : (f : List ℕ) (r c : ℕ) → HasFault chapter4 f 10 r c → kindAt f (r - 1) ≡ *70* → (c ≡ 11) × Falls f (r - 1)
+refused-falls f r c x k =
+    let y = falls-iff f (r - 1) c k .0 (subst (λ z. HasFault chapter4 f 10 z c) (omega (arith, from-record-1 f r c x)) x) in (y .1, y .3)
+
+pub answer-falls : (enough : Bool) (f : List ℕ) (ms : List Meaning) → answer (outcome enough f) ms .number ≡ 10 → kindAt f (answer (outcome enough f) ms .place - 1) ≡ *70*
+    → (answer (outcome enough f) ms .column ≡ 11) × Falls f (answer (outcome enough f) ms .place - 1)
+unfolding FirstOf outcome
+answer-falls enough f ms e k = by _ _ (answer-refuses 9 (outcome enough f) ms e) k
+  where
+    by : (r c : ℕ) → outcome enough f ≡ refuse 10 r c → kindAt f (r - 1) ≡ *70* → (c ≡ 11) × Falls f (r - 1)
+    by r c q = unfold CallFaults in either (λ x. absurd (omega (arith, x .1))) (refused-falls f r c) (subst (FirstOf (CallFaults chapter4 enough f)) q (first-outcome chapter4 sound sound-refs enough f) .0)

@@ -20,7 +20,7 @@ pub mod Bounds  -- the bounds of a fault's number, record and column
 pub mod Keeping  -- what is kept of the records before
 pub mod AgreeLaws  -- agreement is what the paper says
 pub mod Conforming  -- accepted exactly when it conforms
-pub mod InstrumentLaws  -- the records of one instrument number stand together
+pub mod InstrumentLaws  -- the records of one instrument number stand together, and 10 is only where a number falls
 pub mod Demands  -- the demands
 pub mod Published  -- the published columns
 pub mod Samples  -- files by computation

@@ -47,6 +47,13 @@ fields-named e xs l long from (f ∷ fs) p h n c k (inl (inr x)) = absurd (omega
 fields-named e xs l long from (f ∷ fs) p h n c k (inr x) =
     let more = fields-named e xs l long (from + width (f .item)) fs (omega arith) (both h .1) n c k x in (more .0, inr (more .1), more .2)
 
+-- ---- the bytes have no fault from 6 on
+pub not-bytes : (l : List ℕ) (n c : ℕ) → 6 ≤ n → ByteFaults l n c → ⊥
+unfolding ByteFaults
+not-bytes l n c h (inl x) = omega (arith, x .1)
+not-bytes l n c h (inr (inl x)) = omega (arith, x .4)
+not-bytes l n c h (inr (inr x)) = omega (arith, x .2)
+
 -- ---- what would go before 9 is not there
 stage-9 : stage 9 ≡ 4
 unfolding stage
@@ -97,16 +104,10 @@ module _ {S : Type 0} (E : Edition S) (is-sound : Sound E) where
       early-6 : stage 6 ≤ 3
       early-6 = unfold stage in omega arith
 
-  not-bytes : (l : List ℕ) (c : ℕ) → ByteFaults l 9 c → ⊥
-  unfolding ByteFaults
-  not-bytes l c (inl x) = omega (arith, x .1)
-  not-bytes l c (inr (inl x)) = omega (arith, x .4)
-  not-bytes l c (inr (inr x)) = omega (arith, x .2)
-
   -- 9 among the faults of a line, and none before it
   line-named : (s : S) (l : List ℕ) (c : ℕ) → LineFaults E s l 9 c → ((n d : ℕ) → stage n ≤ 3 → LineFaults E s l n d → ⊥) → Points E l c
   unfolding LineFaults
-  line-named s l c (inl x) none = absurd (not-bytes l c x)
+  line-named s l c (inl x) none = absurd (not-bytes l 9 c (omega arith) x)
   line-named s l c (inr (inl x)) none = absurd (omega (arith, x .1))
   line-named s l c (inr (inr (inl x))) none = absurd (omega (arith, x .1))
   line-named s l c (inr (inr (inr x))) none =
@@ -115,7 +116,7 @@ module _ {S : Type 0} (E : Edition S) (is-sound : Sound E) where
 
   read-named : (l : List ℕ) (c : ℕ) → ReadFaults E l 9 c → ((n d : ℕ) → stage n ≤ 3 → ReadFaults E l n d → ⊥) → Points E l c
   unfolding ReadFaults
-  read-named l c (inl x) none = absurd (not-bytes l c x)
+  read-named l c (inl x) none = absurd (not-bytes l 9 c (omega arith) x)
   read-named l c (inr (inl x)) none = absurd (omega (arith, x .1))
   read-named l c (inr (inr x)) none =
       let k = reached l (ReadFaults E l) (λ n d y. inl y) (λ n d y. inr (inl y)) none in tail-points anything l (k .0) (k .1) c (unfold Tail in x)
@@ -167,15 +168,15 @@ module _ {S : Type 0} (E : Edition S) (is-sound : Sound E) where
       by = unfold GivenFaults in either (λ x. inl (x .2)) (either (λ x. inr (inl (x .2))) (λ x. inr (inr (told-first anything (told E m) (E .layout (m .code)) (m .values) n c (unfold told in x .1)))))
 
 -- ---- Chapter 4: what the calls answer
-answer-9 : (v : Result) (ms : List Meaning) → answer v ms .number ≡ 9 → v ≡ refuse 9 (answer v ms .place) (answer v ms .column)
+pub answer-refuses : (k : ℕ) (v : Result) (ms : List Meaning) → answer v ms .number ≡ k + 1 → v ≡ refuse (k + 1) (answer v ms .place) (answer v ms .column)
 unfolding answer
-answer-9 accept ms e = absurd (omega arith)
-answer-9 (refuse n r c) ms e = ap (λ k. refuse k r c) e
+answer-refuses k accept ms e = absurd (omega arith)
+answer-refuses k (refuse n r c) ms e = ap (λ m. refuse m r c) e
 
 -- check and rewrite
 pub answer-points : (enough : Bool) (f : List ℕ) (ms : List Meaning) → answer (outcome enough f) ms .number ≡ 9
     → Points chapter4 (lineAt f (answer (outcome enough f) ms .place - 1)) (answer (outcome enough f) ms .column)
-answer-points enough f ms e = by enough (answer-9 (outcome enough f) ms e)
+answer-points enough f ms e = by enough (answer-refuses 8 (outcome enough f) ms e)
   where
     by : (b : Bool) {r c : ℕ} → outcome b f ≡ refuse 9 r c → Points chapter4 (lineAt f (r - 1)) c
     by true {r} {c} k = file-points chapter4 sound sound-refs f r c (unfold outcome in k)

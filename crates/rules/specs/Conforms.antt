@@ -36,6 +36,10 @@ pub record Nearest (f : List ℕ) (k h j i : ℕ) : Type 0 where
 abbrev pub Group : List ℕ → ℕ → ℕ → Type 0
 Group f j i = Nearest f *25* *70* j i
 
+-- 02, T-04, "when the number falls": that of record i + 1 is below that of the *70* before it
+unfoldable pub Falls : List ℕ → ℕ → Type 0
+Falls f i = (j : ℕ) × Nearest f *70* *70* j i × (numberAt 11 (recordAt f i) < numberAt 11 (recordAt f j))
+
 -- how many records of kind k stand between record j + 1 and record i + 1
 unfoldable pub between : List ℕ → (k j i : ℕ) → ℕ
 between f k j zero = 0

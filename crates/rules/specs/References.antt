@@ -1,5 +1,6 @@
 -- 01, "A station number is defined by its *80*, and by one only; each *25* names a defined station, instrument and antenna",
--- 02, T-03, of *91* and *92*: "Each station they name must be defined", and 01, "Memory": the words of the lent table.
+-- 02, T-03, of *91* and *92*: "Each station they name must be defined", 02, T-04: "An instrument is defined by at least one *70*",
+-- and 01, "Memory": the words of the lent table.
 use mathlib.Core.Path.{_≡_}
 use mathlib.Core.Bool.{Bool, true, cond}
 use mathlib.Core.List.{List, [], _∷_, map}
@@ -90,7 +91,8 @@ unfoldable pub tabulate : (ℕ → ℕ) → ℕ → ℕ → List ℕ
 tabulate f zero i = []
 tabulate f (suc n) i = f i ∷ tabulate f n (i + 1)
 
--- word n is the record number of station n's *80*, word 10,000 + n of instrument n's *70*, word 11,000 + n of antenna n's *72*
+-- word n is the record number of station n's *80*, word 10,000 + n of instrument n's *70*, word 11,000 + n of antenna n's *72*;
+-- of several *70*, 02, T-04: "The table word holds the first such record"
 unfoldable pub hasWord : ℕ → Family → Bool
 hasWord j F = within (F .base) (F .base + F .most) j
 

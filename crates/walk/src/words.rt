@@ -1,4 +1,4 @@
-// The lent table: word n for station n's *80*, 10,000 + n for instrument n's *70*, 11,000 + n for antenna n's *72*.
+// The lent table: word n for station n's *80*, 10,000 + n for instrument n's first *70*, 11,000 + n for antenna n's *72*.
 use kinds::Antenna;
 use kinds::Instrument;
 use kinds::Occupation;
