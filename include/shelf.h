@@ -9,10 +9,11 @@
  * at all. Words of an answer beyond those named here stay as they are.
  *
  * number, record and column are the scope paper's fault: 0 0 0 is acceptance.
- * Of a 9, a field not of its kind or range, shelf_check, shelf_rewrite and
+ * Of a 9, a field not of its kind or range, shelf_form, shelf_rewrite and
  * shelf_read give the first column at which no acceptable field begins with
  * the characters up to there, shelf_write the field's first. A 12 is a *25*,
- * *91* or *92* that names an undefined number.
+ * *91* or *92* that names an undefined number. A 14 is a file whose form is
+ * not good; shelf_references alone gives it.
  * A kind is 0 to 13, in the order AA 10 11 12 25 26 27 70 72 80 86 91 92 93.
  */
 #ifndef SHELF_H
@@ -26,7 +27,8 @@ extern "C" {
 #endif
 
 /* The words that each call's answer needs, and those of the table. */
-#define SHELF_CHECK_ANSWER 17
+#define SHELF_FORM_ANSWER 17
+#define SHELF_REFERENCES_ANSWER 3
 #define SHELF_REWRITE_ANSWER 17
 #define SHELF_READ_ANSWER 32
 #define SHELF_FIELD_ANSWER 2
@@ -38,25 +40,37 @@ extern "C" {
  * *86* can have one. */
 #define SHELF_MISSING INT64_MIN
 
-/* Judges a file.
+/* Judges a file's form and order: faults 2 to 10. Whether the numbers that
+ * its records name are defined, and defined once, has no say in it.
  *
  * answer: number, record, column, then the fourteen counts in the order of
- * the kinds, all 0 on a refusal.
+ * the kinds, all 0 on a refusal. */
+void shelf_form(const uint8_t *file, size_t len,
+                uint32_t *answer, size_t answers);
+
+/* Judges a file's references: faults 11 and 12. It judges the form itself,
+ * and before them: a file that shelf_form refuses, whatever its fault, is 14
+ * with record 0 and column 0.
+ *
+ * answer: number, record, column.
  * table: on acceptance word n is the record number of station n's *80*, word
  * 10,000 + n of instrument n's first *70*, word 11,000 + n of antenna n's
- * *72*, 0 where there is none. A table below 12,000 words is fault 1 and is
- * not touched; every other refusal puts 0 into its first 12,000 words. Words
- * beyond those stay. */
-void shelf_check(const uint8_t *file, size_t len,
-                 uint32_t *table, size_t words,
-                 uint32_t *answer, size_t answers);
+ * *72*, 0 where there is none. A table below 12,000 words is fault 1, before
+ * 14, and is not touched; every other refusal puts 0 into its first 12,000
+ * words. Words beyond those stay. */
+void shelf_references(const uint8_t *file, size_t len,
+                      uint32_t *table, size_t words,
+                      uint32_t *answer, size_t answers);
 
 /* Judges a file and puts it into out in house style.
  *
- * answer and table: as shelf_check. An output shorter than the file is fault
- * 1 too, and then neither table nor output is touched. On acceptance the
- * first len bytes of out are the rewritten file; the rest of it stays, and a
- * refusal leaves all of it as it was. */
+ * answer: number, record, column of the first fault, those of the form before
+ * those of the references, and never 14; then the fourteen counts as in
+ * shelf_form, all 0 on a refusal.
+ * table: as in shelf_references. An output shorter than the file is fault 1
+ * too, and then neither table nor output is touched. On acceptance the first
+ * len bytes of out are the rewritten file; the rest of it stays, and a refusal
+ * leaves all of it as it was. */
 void shelf_rewrite(const uint8_t *file, size_t len,
                    uint32_t *table, size_t words,
                    uint8_t *out, size_t room,

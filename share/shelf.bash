@@ -8,7 +8,7 @@ _shelf() {
         words='check sheet show pad rewrite move help'
     elif [[ $word == -* && $before != @(--files-from|--ledger) ]]; then
         case ${COMP_WORDS[1]} in
-            check) words='--files-from -0 --pad --json --quiet --help --version' ;;
+            check) words='--files-from -0 --form --pad --json --quiet --help --version' ;;
             sheet) words='--pad --help --version' ;;
             show) words='--pad --help --version' ;;
             pad) words='--replace --quiet --help --version' ;;

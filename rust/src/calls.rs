@@ -1,10 +1,14 @@
-//! The six calls in the word form of `include/shelf.h`.
+//! The seven calls in the word form of `include/shelf.h`.
 //!
 //! The proved library and the implementations in Rust answer through this one
 //! interface, so that they are compared word by word and byte by byte.
 
-/// Check and rewrite answer number, record, column and fourteen counts.
-pub const CHECK_WORDS: usize = 17;
+/// Form answers number, record, column and fourteen counts.
+pub const FORM_WORDS: usize = 17;
+/// References answers number, record and column.
+pub const REFERENCES_WORDS: usize = 3;
+/// Rewrite answers number, record, column and fourteen counts.
+pub const REWRITE_WORDS: usize = 17;
 /// Read answers number, record, column, kind, sequence number and values.
 pub const READ_WORDS: usize = 32;
 /// Field answers offset and length.
@@ -32,12 +36,14 @@ pub const NO_SEQUENCE: i64 = -1;
 /// The calls that take a whole file, which the tuned implementation has too.
 /// With an answer shorter than the call's own, a call touches nothing.
 pub trait FileCalls {
-    fn check(&self, file: &[u8], table: &mut [u32], answer: &mut [u32]);
+    fn form(&self, file: &[u8], answer: &mut [u32]);
+
+    fn references(&self, file: &[u8], table: &mut [u32], answer: &mut [u32]);
 
     fn rewrite(&self, file: &[u8], table: &mut [u32], out: &mut [u8], answer: &mut [u32]);
 }
 
-/// All six calls.
+/// All seven calls.
 pub trait Calls: FileCalls {
     fn read(&self, file: &[u8], record: u32, answer: &mut [i64]);
 

@@ -3,7 +3,7 @@
 
 mod padding;
 
-use crate::plain::{check, rewrite, Checked, Fault};
+use crate::plain::{form, references, rewrite, Checked, Fault};
 use std::fs;
 use std::io::{self, Write};
 use std::path::{Path, PathBuf};
@@ -33,12 +33,11 @@ pub fn page() -> io::Result<Vec<u8>> {
     Ok(page)
 }
 
-/// Both calls, with a word and a record more lent than they need.
+/// The three calls, with a word and a record more lent than they need.
 fn whole(out: &mut impl Write, name: &str, file: &[u8]) -> io::Result<()> {
     writeln!(out, "file {name}, bytes {}", file.len())?;
     let mut table = vec![WORD; 12_001];
-    write!(out, "check ")?;
-    show_checked(out, check(file, &mut table))?;
+    show_judged(out, file, &mut table)?;
     show_table(out, &table)?;
 
     let mut other = vec![WORD; 12_001];
@@ -47,7 +46,7 @@ fn whole(out: &mut impl Write, name: &str, file: &[u8]) -> io::Result<()> {
     write!(out, "rewrite ")?;
     show_checked(out, checked)?;
     let differ = differing(&table, &other);
-    writeln!(out, "words other than after check: {differ}")?;
+    writeln!(out, "words other than after references: {differ}")?;
     if checked.fault == Fault::ACCEPTED {
         let (rewritten, beyond) = output.split_at(file.len());
         show_rewritten(out, rewritten)?;
@@ -56,6 +55,18 @@ fn whole(out: &mut impl Write, name: &str, file: &[u8]) -> io::Result<()> {
         show_kept(out, "bytes of the output", &output, BYTE)?;
     }
     writeln!(out)
+}
+
+/// What form and references say.
+fn show_judged(out: &mut impl Write, file: &[u8], table: &mut [u32]) -> io::Result<()> {
+    write!(out, "form ")?;
+    show_checked(out, form(file))?;
+    show_references(out, file, table)
+}
+
+fn show_references(out: &mut impl Write, file: &[u8], table: &mut [u32]) -> io::Result<()> {
+    write!(out, "references ")?;
+    show_fault(out, references(file, table))
 }
 
 fn show_fault(out: &mut impl Write, fault: Fault) -> io::Result<()> {
@@ -120,8 +131,8 @@ fn lengths(out: &mut impl Write, data: &Path, name: &str) -> io::Result<()> {
     let file = &fs::read(data.join(name))?;
     writeln!(out, "lengths, {name}\n")?;
     let mut table = vec![WORD; 11_999];
-    write!(out, "a table of 11999 words\ncheck ")?;
-    show_checked(out, check(file, &mut table))?;
+    writeln!(out, "a table of 11999 words")?;
+    show_references(out, file, &mut table)?;
     show_kept(out, "words of the table", &table, WORD)?;
     lent(out, file, 11_999, file.len())?;
     writeln!(out, "an output of a byte less than the file")?;

@@ -4,8 +4,8 @@
 //! `plain` is written from the rule paper, the requests and docs/LAYOUT.md
 //! alone and exists to be compared with: it shares no code with the proved
 //! program, so that both giving the same answer says something about both.
-//! `tuned` is check and rewrite once more, written for speed, for the
-//! benchmark.
+//! `tuned` is form, references and rewrite once more, written for speed, for
+//! the benchmark.
 
 pub mod calls;
 pub mod files_tried;

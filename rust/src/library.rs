@@ -1,11 +1,11 @@
 //! The proved library, called safely.
 //!
-//! [`Library`] has the six calls in the word form of `include/shelf.h`; the
+//! [`Library`] has the seven calls in the word form of `include/shelf.h`; the
 //! functions below it give the same answers as values, for the command line.
 
 use crate::calls::{
-    Calls, FileCalls, CHECK_WORDS, FIELD_WORDS, FIRST_VALUE_WORD, KIND_WORD, NO_SEQUENCE,
-    PAD_WORDS, READ_WORDS, SEQUENCE_WORD, WRITE_WORDS,
+    Calls, FileCalls, FIELD_WORDS, FIRST_VALUE_WORD, FORM_WORDS, KIND_WORD, NO_SEQUENCE, PAD_WORDS,
+    READ_WORDS, REFERENCES_WORDS, REWRITE_WORDS, SEQUENCE_WORD, WRITE_WORDS,
 };
 
 /// Words of the station table.
@@ -25,7 +25,8 @@ pub const MISSING: i64 = i64::MIN;
 pub const IS_STANDIN: bool = cfg!(feature = "standin");
 
 extern "C" {
-    fn shelf_check(
+    fn shelf_form(file: *const u8, len: usize, answer: *mut u32, answers: usize);
+    fn shelf_references(
         file: *const u8,
         len: usize,
         table: *mut u32,
@@ -82,9 +83,13 @@ extern "C" {
 pub struct Library;
 
 impl FileCalls for Library {
-    fn check(&self, file: &[u8], table: &mut [u32], answer: &mut [u32]) {
+    fn form(&self, file: &[u8], answer: &mut [u32]) {
+        unsafe { shelf_form(file.as_ptr(), file.len(), answer.as_mut_ptr(), answer.len()) }
+    }
+
+    fn references(&self, file: &[u8], table: &mut [u32], answer: &mut [u32]) {
         unsafe {
-            shelf_check(
+            shelf_references(
                 file.as_ptr(),
                 file.len(),
                 table.as_mut_ptr(),
@@ -179,7 +184,17 @@ pub struct Fault {
     pub column: u32,
 }
 
-/// What check and rewrite say of a file.
+impl Fault {
+    fn of([number, record, column]: [u32; 3]) -> Fault {
+        Fault {
+            number,
+            record,
+            column,
+        }
+    }
+}
+
+/// What form and rewrite say of a file.
 #[derive(Clone, Copy, Debug, PartialEq, Eq)]
 pub struct Verdict {
     pub fault: Fault,
@@ -191,16 +206,14 @@ impl Verdict {
         self.fault.number == 0
     }
 
-    fn of(answer: [u32; CHECK_WORDS]) -> Verdict {
-        let [number, record, column, counts @ ..] = answer;
-        Verdict {
-            fault: Fault {
-                number,
-                record,
-                column,
-            },
-            counts,
-        }
+    fn of([number, record, column, counts @ ..]: [u32; FORM_WORDS]) -> Verdict {
+        let fault = Fault::of([number, record, column]);
+        Verdict { fault, counts }
+    }
+
+    fn refused(fault: Fault) -> Verdict {
+        let counts = [0; 14];
+        Verdict { fault, counts }
     }
 }
 
@@ -226,18 +239,38 @@ pub struct Record {
     pub values: [i64; READ_WORDS - FIRST_VALUE_WORD],
 }
 
-/// Judges a file.
-pub fn check(file: &[u8]) -> Verdict {
-    let mut table = vec![0; TABLE_WORDS];
-    let mut answer = [0; CHECK_WORDS];
-    Library.check(file, &mut table, &mut answer);
+/// Judges a file's form and order.
+pub fn form(file: &[u8]) -> Verdict {
+    let mut answer = [0; FORM_WORDS];
+    Library.form(file, &mut answer);
     Verdict::of(answer)
+}
+
+/// Judges a file's references.
+pub fn references(file: &[u8]) -> Fault {
+    let mut table = vec![0; TABLE_WORDS];
+    let mut answer = [0; REFERENCES_WORDS];
+    Library.references(file, &mut table, &mut answer);
+    Fault::of(answer)
+}
+
+/// Judges a file's form and, where that is good, its references: what rewrite
+/// answers, without the house style.
+pub fn judge(file: &[u8]) -> Verdict {
+    let formed = form(file);
+    if !formed.is_accepted() {
+        return formed;
+    }
+    match references(file) {
+        Fault { number: 0, .. } => formed,
+        fault => Verdict::refused(fault),
+    }
 }
 
 /// Judges a file and gives it in house style if it is accepted.
 pub fn rewrite(file: &[u8]) -> (Verdict, Vec<u8>) {
     let mut table = vec![0; TABLE_WORDS];
-    let mut answer = [0; CHECK_WORDS];
+    let mut answer = [0; REWRITE_WORDS];
     let mut out = vec![0; file.len()];
     Library.rewrite(file, &mut table, &mut out, &mut answer);
     (Verdict::of(answer), out)
@@ -248,11 +281,8 @@ pub fn read(file: &[u8], record: u32) -> Result<Record, Fault> {
     let mut answer = [0; READ_WORDS];
     Library.read(file, record, &mut answer);
     if answer[0] != 0 {
-        return Err(Fault {
-            number: answer[0] as u32,
-            record: answer[1] as u32,
-            column: answer[2] as u32,
-        });
+        let [number, record, column, ..] = answer.map(|word| word as u32);
+        return Err(Fault::of([number, record, column]));
     }
     let mut values = [0; READ_WORDS - FIRST_VALUE_WORD];
     values.copy_from_slice(&answer[FIRST_VALUE_WORD..]);
@@ -275,12 +305,7 @@ pub fn field(file: &[u8], record: u32, column: u32) -> &[u8] {
 pub fn write(out: &mut [u8], values: &[i64], texts: [&[u8]; 3]) -> Fault {
     let mut answer = [0; WRITE_WORDS];
     Library.write(out, values, texts, &mut answer);
-    let [number, record, column] = answer;
-    Fault {
-        number,
-        record,
-        column,
-    }
+    Fault::of(answer)
 }
 
 /// Gives the lines of an input filled with blanks, or nothing on a refusal.
@@ -293,10 +318,6 @@ pub fn pad(input: &[u8]) -> (Padding, Vec<u8>) {
     Library.pad(input, &mut out, &mut answer);
     let [number, record, column, lines] = answer;
     out.truncate(LINE * lines as usize);
-    let fault = Fault {
-        number,
-        record,
-        column,
-    };
+    let fault = Fault::of([number, record, column]);
     (Padding { fault, lines }, out)
 }

@@ -1,5 +1,5 @@
-//! Check, read, write, rewrite, the padding step and the deposit sheet, as the
-//! paper and the requests have them.
+//! Form, references, read, write, rewrite, the padding step and the deposit
+//! sheet, as the paper and the requests have them.
 //!
 //! From below: `fields` reads and writes one field, `layout` says which
 //! fields a record has, `pointing` finds the column to name of a bad field,
@@ -19,9 +19,9 @@ mod words;
 pub use padding::{pad, Padded};
 pub use records::{field, read, write, Reading};
 pub use sheet::sheet;
-pub use walk::{check, rewrite};
-pub(crate) use words::put_checked;
+pub use walk::{form, references, rewrite};
 pub use words::Plain;
+pub(crate) use words::{put_checked, put_fault};
 
 /// Words of the station table that belong to the shelf.
 pub const TABLE_WORDS: usize = 12_000;
@@ -59,9 +59,21 @@ impl Fault {
         record: 0,
         column: 0,
     };
+
+    /// Fault 14: references are judged only where the form is good.
+    pub const FORM_NOT_GOOD: Fault = Fault {
+        number: 14,
+        record: 0,
+        column: 0,
+    };
+
+    /// Whether it is one of form and order.
+    fn is_of_form(&self) -> bool {
+        (2..=10).contains(&self.number)
+    }
 }
 
-/// What check and rewrite hand back. The counts are in the order of
+/// What form and rewrite hand back. The counts are in the order of
 /// [`layout::KINDS`], and all 0 unless the file was accepted.
 #[derive(Clone, Copy, Debug, PartialEq, Eq)]
 pub struct Checked {
@@ -70,6 +82,13 @@ pub struct Checked {
 }
 
 impl Checked {
+    pub(crate) fn accepted(counts: [u32; 14]) -> Checked {
+        Checked {
+            fault: Fault::ACCEPTED,
+            counts,
+        }
+    }
+
     fn refused(fault: Fault) -> Checked {
         Checked {
             fault,

@@ -3,7 +3,8 @@
 
 use crate::plain::layout::{long_texts, Field, Form, FIELDS, JOB};
 use crate::plain::{
-    check, field, read, rewrite, sheet, write, Checked, Fault, Reading, LINE, MISSING, TABLE_WORDS,
+    field, form, read, references, rewrite, sheet, write, Checked, Fault, Reading, LINE, MISSING,
+    TABLE_WORDS,
 };
 use std::path::{Path, PathBuf};
 use std::{fs, io};
@@ -81,7 +82,11 @@ impl Example {
                 Ok(line) => self.columns(&line, self.column - 1),
                 Err(fault) => refusal(fault),
             },
-            "check" => verdict(check(file, &mut [0; TABLE_WORDS])),
+            "form" => verdict(form(file)),
+            "references" => match references(file, &mut [0; TABLE_WORDS]) {
+                Fault::ACCEPTED => "accepted".into(),
+                fault => refusal(fault),
+            },
             "rewrite" => {
                 let mut out = vec![b'.'; file.len()];
                 let fault = rewrite(file, &mut [0; TABLE_WORDS], &mut out).fault;

@@ -190,6 +190,25 @@ pub fn file() -> Vec<u8> {
     lines().concat()
 }
 
+/// The file with its second group, records 10 to 12, of a station that no *80*
+/// defines: good in form.
+pub fn undefined_station() -> Vec<u8> {
+    let mut lines = lines();
+    lines[9] = occupation("0346");
+    lines[10] = measurement("0346");
+    lines[11] = measurement("0346");
+    lines.concat()
+}
+
+/// The file with a second *80* of a station, record 21, and its *86*: good in
+/// form too.
+pub fn repeated_station() -> Vec<u8> {
+    let mut lines = lines();
+    lines.insert(20, point("0345"));
+    lines.insert(21, no_heights("0345"));
+    lines.concat()
+}
+
 /// Counts of the sample, in the order AA 10 11 12 25 26 27 70 72 80 86 91 92 93.
 pub const COUNTS: [u32; 14] = [2, 1, 1, 1, 2, 1, 5, 2, 2, 2, 2, 1, 1, 1];
 

@@ -84,7 +84,7 @@ pub fn page(all: &[Specimen], inputs: &[Input]) -> String {
 const HEAD: &str = "\
 # The files tried
 
-Each is a whole B-file. The verdict is that of the rule paper and the requests after it, found by hand; `rust/tests/paper/files_tried.rs` holds this table against the plain implementation, and the program prints the verdicts of the proved calls in the same order. Most are changes of one small file of 13 records: job code, *10*, *12*, *25*, two *27*, two *70*, two *72*, *80*, *86*, job code. Those about accuracies are changes of the same with a second station: behind its *86* come an *80* and *86* (records 13 and 14), two *91* (15 and 16), a *92* (17), a *93* (18) and the job code (19).
+Each is a whole B-file. The verdict is that of the rule paper and the requests after it, found by hand; `rust/tests/paper/files_tried.rs` holds this table against the plain implementation, and the program prints the verdicts of the proved calls in the same order. The fault is the first in the rule paper's order, and rewrite answers it. Form answers it where it is one of 2 to 10, and accepts every other file, with its counts; references answers it where it is 0, 11 or 12, and to every other file 14, record 0, column 0. Most are changes of one small file of 13 records: job code, *10*, *12*, *25*, two *27*, two *70*, two *72*, *80*, *86*, job code. Those about accuracies are changes of the same with a second station: behind its *86* come an *80* and *86* (records 13 and 14), two *91* (15 and 16), a *92* (17), a *93* (18) and the job code (19).
 
 Fault 1 is tried on an accepted and on a refused one of these, with a table of 11,999 words and with an output of one byte less than the file. Fault 2 would take a file of 8 MB.
 
@@ -95,10 +95,10 @@ Fault 1 is tried on an accepted and on a refused one of these, with a table of 1
 const INPUTS_HEAD: &str = "
 ## The inputs padded
 
-Each is an input of the padding step, most of them the work of an editor that strips blanks or ends lines with CR LF. The answer is the request's and check's verdict on the padded lines the rule paper's, both found by hand; the same test holds this table against the plain implementation, and the program prints them in the same order. The output lent has 2,754 bytes, room for 34 lines.
+Each is an input of the padding step, most of them the work of an editor that strips blanks or ends lines with CR LF. The answer is the request's, and what form and references say of the padded lines (references with record 0 and column 0 each time) the rule paper's and the later request's, all found by hand; the same test holds this table against the plain implementation, and the program prints them in the same order. The output lent has 2,754 bytes, room for 34 lines.
 
 Refusal 1 is tried on `padding_trimmed_cr_lf.bfile`, with an output of 2,672 bytes; 2,673 are enough for its 33 lines. Refusal 2 would take 100,000 lines.
 
-| input | fault | record | column | lines | fault of check | record | column | what is in it, and why |
-|---|---|---|---|---|---|---|---|---|
+| input | fault | record | column | lines | fault of form | record | column | fault of references | what is in it, and why |
+|---|---|---|---|---|---|---|---|---|---|
 ";

@@ -1,4 +1,4 @@
-//! The six symbols of `include/shelf.h` over the plain implementation, so
+//! The seven symbols of `include/shelf.h` over the plain implementation, so
 //! that everything above the library can be built and tested where its
 //! archive cannot be linked. It proves nothing.
 
@@ -9,7 +9,17 @@ use std::slice::{from_raw_parts, from_raw_parts_mut};
 /// # Safety
 /// As `include/shelf.h` says.
 #[no_mangle]
-unsafe extern "C" fn shelf_check(
+unsafe extern "C" fn shelf_form(file: *const u8, len: usize, answer: *mut u32, answers: usize) {
+    Plain.form(
+        from_raw_parts(file, len),
+        from_raw_parts_mut(answer, answers),
+    );
+}
+
+/// # Safety
+/// As `include/shelf.h` says.
+#[no_mangle]
+unsafe extern "C" fn shelf_references(
     file: *const u8,
     len: usize,
     table: *mut u32,
@@ -17,7 +27,7 @@ unsafe extern "C" fn shelf_check(
     answer: *mut u32,
     answers: usize,
 ) {
-    Plain.check(
+    Plain.references(
         from_raw_parts(file, len),
         from_raw_parts_mut(table, words),
         from_raw_parts_mut(answer, answers),

@@ -3,10 +3,13 @@ use mathlib.Core.Path.{_≡_}
 use mathlib.Core.List.{List}
 use Prim.Native.Nat.{ℕ}
 use lib.IntN.{ℤ}
-use Rattle.answers.specs.Promise.{Checks, Rewrites, Pads, Reads, Finds, Writes}
+use Rattle.answers.specs.Promise.{Forms, Refers, Rewrites, Pads, Reads, Finds, Writes}
 
-pub one-check : (f t a u b v d : List ℕ) → Checks f t a u b → Checks f t a v d → (u ≡ v) × (b ≡ d)
-one-check f t a u b v d p q = (cc, cc)
+pub one-form : (f a b d : List ℕ) → Forms f a b → Forms f a d → b ≡ d
+one-form f a b d p q = cc
+
+pub one-references : (f t a u b v d : List ℕ) → Refers f t a u b → Refers f t a v d → (u ≡ v) × (b ≡ d)
+one-references f t a u b v d p q = (cc, cc)
 
 pub one-rewrite : (f t o a u p b v q d : List ℕ) → Rewrites f t o a u p b → Rewrites f t o a v q d → (u ≡ v) × (p ≡ q) × (b ≡ d)
 one-rewrite f t o a u p b v q d x y = (cc, cc, cc)

@@ -1,4 +1,4 @@
--- What the calls leave in lent memory, and the words of check, rewrite, pad and field.
+-- What the calls leave in lent memory, and the words of form, references, rewrite, pad and field.
 use mathlib.Core.Path.{_≡_}
 use mathlib.Core.Bool.{cond}
 use mathlib.Core.List.{List, [], _∷_, _++_}
@@ -23,8 +23,8 @@ touched n answer after before = cond (n ≤? length answer) after before
 unfoldable pub faultWords : Fault → List ℕ
 faultWords f = f .number ∷ f .«record» ∷ f .column ∷ []
 
-unfoldable pub checkWords : Checked → List ℕ
-checkWords v = faultWords (v .fault) ++ v .counts
+unfoldable pub checkedWords : Checked → List ℕ
+checkedWords v = faultWords (v .fault) ++ v .counts
 
 -- the number of lines behind the fault
 unfoldable pub paddedWords : Padded → List ℕ

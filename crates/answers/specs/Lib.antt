@@ -1,5 +1,5 @@
 -- What the calls leave in words.
-pub mod Answers  -- check, rewrite, pad and field
+pub mod Answers  -- form, references, rewrite, pad and field
 pub mod Words  -- what read answers
 pub mod Given  -- what write is given
 pub mod Promise  -- the promise of each call

@@ -5,22 +5,26 @@ use Prim.Native.Nat.{ℕ}
 use lib.ListN.{length}
 use lib.IntN.{ℤ}
 use Rattle.rules.specs.Fields.{Verdict}
-use Rattle.rules.specs.Calls.{checkAnswer, checkTable, rewriteAnswer, rewriteTable, rewriteOutput, readOf, writeVerdict, writeOutput}
+use Rattle.rules.specs.Calls.{formAnswer, referencesAnswer, referencesTable, rewriteAnswer, rewriteTable, rewriteOutput, readOf, writeVerdict, writeOutput}
 use Rattle.rules.specs.Padding.{padAnswer, padOutput}
-use Rattle.kinds.specs.Values.{kindNumber, sequenceValue, meaningOf, checkedOf, readingOf, writtenOf}
+use Rattle.kinds.specs.Values.{kindNumber, sequenceValue, meaningOf, checkedOf, faultOf, readingOf, writtenOf}
 use Rattle.padding.specs.Promise.{paddedOf}
-use Rattle.answers.specs.Answers.{answered, touched, checkWords, paddedWords, fieldWords}
+use Rattle.answers.specs.Answers.{answered, touched, faultWords, checkedWords, paddedWords, fieldWords}
 use Rattle.answers.specs.Words.{readWords}
 use Rattle.answers.specs.Given.{given, sequenceGiven, writtenWords}
 
--- of a file f, a table t and an answer a: the table u and the answer b
-pub record Checks (f t a u b : List ℕ) : Type 0 where
-  pub answer : b ≡ answered 17 (checkWords (checkedOf (checkAnswer f t))) a
-  pub table : u ≡ touched 17 a (checkTable f t) t
+-- of a file f and an answer a: the answer b
+pub record Forms (f a b : List ℕ) : Type 0 where
+  pub answer : b ≡ answered 17 (checkedWords (checkedOf (formAnswer f))) a
+
+-- and of a table t: the table u
+pub record Refers (f t a u b : List ℕ) : Type 0 where
+  pub answer : b ≡ answered 3 (faultWords (faultOf (referencesAnswer f t))) a
+  pub table : u ≡ touched 3 a (referencesTable f t) t
 
 -- and of an output o: the output p
 pub record Rewrites (f t o a u p b : List ℕ) : Type 0 where
-  pub answer : b ≡ answered 17 (checkWords (checkedOf (rewriteAnswer f t o))) a
+  pub answer : b ≡ answered 17 (checkedWords (checkedOf (rewriteAnswer f t o))) a
   pub table : u ≡ touched 17 a (rewriteTable f t o) t
   pub out : p ≡ touched 17 a (rewriteOutput f t o) o
 

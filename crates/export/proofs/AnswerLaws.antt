@@ -14,7 +14,7 @@ use Rattle.reading.proofs.CallLaws.{inside, room, empty-offset, some-offset}
 use Rattle.kinds.specs.declared.Fault.{Fault}
 use Rattle.kinds.specs.declared.Checked.{Checked}
 use Rattle.padding.specs.declared.Padded.{Padded}
-use Rattle.answers.specs.Answers.{answered, touched, faultWords, checkWords, paddedWords, fieldWords}
+use Rattle.answers.specs.Answers.{answered, touched, faultWords, checkedWords, paddedWords, fieldWords}
 
 -- ---- too short an answer, and one that is long enough
 module _ {A : Type 0} (n : ℕ) (old : List A) where
@@ -34,9 +34,9 @@ module _ {A : Type 0} (n : ℕ) (old : List A) where
   unfolding touched
   long-touched h u after before e = e ∙ rw (of≤ h)
 
--- ---- check and rewrite
-pub check-answer : (old : List ℕ) → 17 ≤ length old → (v w : Checked) → v ≡ w → (u : List ℕ) → u ≡ checkWords v → u ++ drop 17 old ≡ answered 17 (checkWords w) old
-check-answer old h v w e u q = long-answer 17 old h u (checkWords w) (q ∙ ap checkWords e)
+-- ---- form and rewrite
+pub checked-answer : (old : List ℕ) → 17 ≤ length old → (v w : Checked) → v ≡ w → (u : List ℕ) → u ≡ checkedWords v → u ++ drop 17 old ≡ answered 17 (checkedWords w) old
+checked-answer old h v w e u q = long-answer 17 old h u (checkedWords w) (q ∙ ap checkedWords e)
 
 three-words : (old : List ℕ) (a b c : ℕ) → length old ≡ 3 → set (set (set old 0 a) 1 b) 2 c ≡ a ∷ b ∷ c ∷ []
 three-words [] a b c h = absurd (omega arith)
@@ -49,8 +49,8 @@ pub fault-words : (old : List ℕ) (f : Fault) → length old ≡ 3 → set (set
 unfolding faultWords
 fault-words old f h = three-words old _ _ _ h
 
-pub checked-words : (old xs ys : List ℕ) (v : Checked) → length old ≡ 17 → xs ≡ faultWords (v .fault) → ys ≡ v .counts → length (v .counts) ≡ 14 → putMid 3 14 (putMid 0 3 old xs) ys ≡ checkWords v
-unfolding checkWords faultWords
+pub checked-words : (old xs ys : List ℕ) (v : Checked) → length old ≡ 17 → xs ≡ faultWords (v .fault) → ys ≡ v .counts → length (v .counts) ≡ 14 → putMid 3 14 (putMid 0 3 old xs) ys ≡ checkedWords v
+unfolding checkedWords faultWords
 checked-words old xs ys v h p q k = rw (p, q, drop-drop 14 3 old, drop-of-length-le old {i = 17} (omega arith), append-nil {A = ℕ})
 
 pub padded-words : (old xs : List ℕ) (v : Padded) → length old ≡ 4 → xs ≡ faultWords (v .fault) → set (putMid 0 3 old xs) 3 (v .lines) ≡ paddedWords v

@@ -1,8 +1,8 @@
 -- The record and the column of a fault fit words: by the bounds of faults, and a record that read is asked for by its own width; so do the standard deviations of a record that reads.
 use mathlib.Core.Path.{_≡_, refl, sym, _∙_, subst}
-use mathlib.Core.Bool.{Bool, true, false≢true}
+use mathlib.Core.Bool.{Bool, true, false, false≢true}
 use mathlib.Core.List.{List, [], _∷_}
-use Prim.Native.Nat.{ℕ, zero, suc, _-_, _<_, _^_}
+use Prim.Native.Nat.{ℕ, zero, suc, _-_, _≤_, _<_, _^_}
 use native.Mathlib.Omega.{arith}
 use lib.Dec.{lit≤}
 use lib.IntN.{pos, negsuc}
@@ -13,22 +13,22 @@ use Rattle.rules.specs.Fields.{Field, Verdict, ok, fault, isOk, given, entriesO
 use Rattle.rules.specs.Kinds.{kindOf, known}
 use Rattle.rules.specs.Layouts.{at, deviation, network, local, kept, layouts, layout}
 use Rattle.rules.specs.Records.{Meaning, readLine, meaning, told, meant}
-use Rattle.rules.specs.Files.{Result, accept, refuse, lineAt, begun, meanings}
+use Rattle.rules.specs.Files.{Result, accept, refuse, isAccept, lineAt, begun, meanings, formVerdict}
 use Rattle.rules.specs.References.{tally, counts}
 use Rattle.rules.specs.Chapter4.{chapter4}
-use Rattle.rules.specs.Calls.{outcome, answer, bigTable, checkAnswer, rewriteRoom, rewriteAnswer, Reading, values, unread, readAs, readOf}
+use Rattle.rules.specs.Calls.{outcome, answer, bigTable, formAnswer, referencesOutcome, referencesAnswer, rewriteRoom, rewriteAnswer, Reading, values, unread, readAs, readOf}
 use Rattle.rules.specs.Padding.{padAnswer, padOutput}
 use Rattle.rules.proofs.Truth.{both, and, to≤, of≤, to≡, cases, to-within}
 use Rattle.rules.proofs.RecordLaws.{readLine-splits, line-meant}
 use Rattle.rules.proofs.ReferenceLaws.{length-tabulate}
-use Rattle.rules.proofs.Bounds.{answer-bounded, unread-bounds}
+use Rattle.rules.proofs.Bounds.{Bounded, answer-bounded, form-bounded, reference-refused, unread-bounds}
 use Rattle.kinds.specs.declared.Checked.{Checked}
 use Rattle.kinds.specs.declared.Fault.{Fault}
 use Rattle.columns.specs.Types.{natOf}
 use Rattle.kinds.specs.declared.Sequence.{Sequence}
 use Rattle.kinds.specs.declared.Record.{Record}
 use Rattle.kinds.specs.declared.Reading as kinds
-use Rattle.kinds.specs.Values.{checkedOf, recordFrom, recordOf, readingOf}
+use Rattle.kinds.specs.Values.{checkedOf, faultOf, recordFrom, recordOf, readingOf}
 use Rattle.kinds.proofs.TableLaws.{each-kind}
 use Rattle.padding.specs.declared.Padded.{Padded}
 use Rattle.padding.specs.Promise.{paddedOf}
@@ -36,28 +36,53 @@ use Rattle.padding.proofs.PadDemands.{demand-1-pad}
 use Rattle.answers.specs.Answers.{Small, Counted}
 use Rattle.answers.specs.Words.{deviationsOf, inRange, Told}
 
--- ---- check and rewrite
+-- ---- form, references and rewrite
 fourteen : (v : Result) (ms : List Meaning) → length (answer v ms .counts) ≡ 14
 unfolding answer
 fourteen accept ms = unfold counts in length-tabulate (λ k. tally k ms) 14 0
 fourteen (refuse n r c) ms = refl
 
-counted : (enough : Bool) (f : List ℕ) → Counted (checkedOf (answer (outcome enough f) (meanings chapter4 f)))
+counted : (x : Result) (ms : List Meaning) → Bounded (answer x ms) → Counted (checkedOf (answer x ms))
 unfolding checkedOf
-counted enough f =
-    let within = answer-bounded enough f (meanings chapter4 f) in
-    record {
-      small = record { place = omega (arith, within .place); spot = omega (arith, within .column) };
-      fourteen = fourteen (outcome enough f) (meanings chapter4 f);
-    }
+counted x ms within = record {
+  small = record { place = omega (arith, within .place); spot = omega (arith, within .column) };
+  fourteen = fourteen x ms;
+}
 
-pub check-counted : (f t : List ℕ) (v : Checked) → v ≡ checkedOf (checkAnswer f t) → Counted v
-unfolding checkAnswer
-check-counted f t v e = rw e (counted (bigTable t) f)
+pub form-counted : (f : List ℕ) (v : Checked) → v ≡ checkedOf (formAnswer f) → Counted v
+unfolding formAnswer
+form-counted f v e = rw e (counted (formVerdict chapter4 f) (meanings chapter4 f) (form-bounded f (meanings chapter4 f)))
 
 pub rewrite-counted : (f t o : List ℕ) (v : Checked) → v ≡ checkedOf (rewriteAnswer f t o) → Counted v
 unfolding rewriteAnswer
-rewrite-counted f t o v e = rw e (counted (rewriteRoom f t o) f)
+rewrite-counted f t o v e =
+    let enough = rewriteRoom f t o in rw e (counted (outcome enough f) (meanings chapter4 f) (answer-bounded enough f (meanings chapter4 f)))
+
+small-of : (x : Result) → ((n r c : ℕ) → x ≡ refuse n r c → (r ≤ 100_000) × (c ≤ 81)) → Small (faultOf x)
+unfolding faultOf
+small-of accept h = record { place = omega arith; spot = omega arith }
+small-of (refuse n r c) h = let k = h n r c refl in record { place = omega (arith, k .0); spot = omega (arith, k .1) }
+
+references-within : (enough : Bool) (f : List ℕ) (n r c : ℕ) → referencesOutcome enough f ≡ refuse n r c → (r ≤ 100_000) × (c ≤ 81)
+unfolding referencesOutcome
+references-within true f n r c e =
+    cases (isAccept (formVerdict chapter4 f))
+    (λ g. let k = reference-refused f n r c g (rw g at e) in (k .2, k .3))
+    (λ g. nowhere 14 (rw g at e))
+  where
+    nowhere : (m : ℕ) → refuse m 0 0 ≡ refuse n r c → (r ≤ 100_000) × (c ≤ 81)
+    nowhere m q =
+        let x : 0 ≡ r = cc in
+        let y : 0 ≡ c = cc in
+        (omega arith, omega arith)
+references-within false f n r c e =
+    let x : 0 ≡ r = cc in
+    let y : 0 ≡ c = cc in
+    (omega arith, omega arith)
+
+pub references-small : (f t : List ℕ) (w : Fault) → w ≡ faultOf (referencesAnswer f t) → Small w
+unfolding referencesAnswer
+references-small f t w e = rw e (small-of (referencesOutcome (bigTable t) f) (references-within (bigTable t) f))
 
 -- ---- pad
 pub pad-small : (f o : List ℕ) (v : Padded) → v ≡ paddedOf (padAnswer f o) → Small (v .fault)

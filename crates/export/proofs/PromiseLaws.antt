@@ -4,28 +4,32 @@ use mathlib.Core.List.{List, _++_}
 use Prim.Native.Nat.{ℕ, _+_, _-_, _*_, _≤_, _<_}
 use lib.ListN.{length, drop, set}
 use lib.IntN.{ℤ}
-use Rattle.rules.specs.Calls.{checkAnswer, checkTable, rewriteAnswer, rewriteTable, rewriteOutput, readOf, fieldOf, writeVerdict, writeOutput}
+use Rattle.rules.specs.Calls.{formAnswer, referencesAnswer, referencesTable, rewriteAnswer, rewriteTable, rewriteOutput, readOf, fieldOf, writeVerdict, writeOutput}
 use Rattle.rules.specs.Padding.{padAnswer, padOutput}
 use Rattle.kinds.specs.declared.Sequence.{Sequence}
 use Rattle.kinds.specs.declared.Record.{Record}
+use Rattle.kinds.specs.declared.Fault.{Fault}
 use Rattle.kinds.specs.declared.Checked.{Checked}
 use Rattle.kinds.specs.declared.Reading.{Reading}
 use Rattle.kinds.specs.declared.Written.{Written}
-use Rattle.kinds.specs.Values.{kindNumber, sequenceValue, meaningOf, checkedOf, readingOf, writtenOf}
+use Rattle.kinds.specs.Values.{kindNumber, sequenceValue, meaningOf, checkedOf, faultOf, readingOf, writtenOf}
 use Rattle.padding.specs.declared.Padded.{Padded}
 use Rattle.padding.specs.Promise.{paddedOf}
-use Rattle.answers.specs.Answers.{touched, checkWords, paddedWords}
+use Rattle.answers.specs.Answers.{touched, faultWords, checkedWords, paddedWords}
 use Rattle.answers.specs.Words.{readWords}
 use Rattle.answers.specs.Given.{given, sequenceGiven, writtenWords}
-use Rattle.answers.specs.Promise.{Checks, Rewrites, Pads, Reads, Finds, wordsVerdict, wordsOutput, Writes}
-use Rattle.export.proofs.AnswerLaws.{short-answer, long-answer, untouched, long-touched, check-answer, field-none, field-some}
+use Rattle.answers.specs.Promise.{Forms, Refers, Rewrites, Pads, Reads, Finds, wordsVerdict, wordsOutput, Writes}
+use Rattle.export.proofs.AnswerLaws.{short-answer, long-answer, untouched, long-touched, checked-answer, field-none, field-some}
 use Rattle.export.proofs.WordLaws.{read-answer}
 use Rattle.export.proofs.GivenLaws.{write-answer, write-left}
 
 -- ---- too short an answer
 module _ (a : List ℕ) where
-  pub short-check : length a < 17 → (f t : List ℕ) → Checks f t a t a
-  short-check h f t = let same : t ≡ touched 17 a (checkTable f t) t = untouched 17 a h _ t in record { answer = short-answer 17 a h _; table = cc }
+  pub short-form : length a < 17 → (f : List ℕ) → Forms f a a
+  short-form h f = record { answer = short-answer 17 a h _ }
+
+  pub short-references : length a < 3 → (f t : List ℕ) → Refers f t a t a
+  short-references h f t = let same : t ≡ touched 3 a (referencesTable f t) t = untouched 3 a h _ t in record { answer = short-answer 3 a h _; table = cc }
 
   pub short-rewrite : length a < 17 → (f t o : List ℕ) → Rewrites f t o a t o a
   short-rewrite h f t o = record { answer = short-answer 17 a h _; table = untouched 17 a h _ t; out = untouched 17 a h _ o }
@@ -43,14 +47,17 @@ pub short-read : (a : List ℤ) → length a < 32 → (f : List ℕ) (r : ℕ) �
 short-read a h f r = record { answer = short-answer 32 a h _ }
 
 -- ---- one that is long enough, by what the inner call promises
-pub long-check : (f t a : List ℕ) → 17 ≤ length a → (v : Checked) → v ≡ checkedOf (checkAnswer f t) → (u : List ℕ) → u ≡ checkTable f t
-    → (w : List ℕ) → w ≡ checkWords v → Checks f t a u (w ++ drop 17 a)
-long-check f t a h v p u q w e =
-    let same : u ≡ touched 17 a (checkTable f t) t = long-touched 17 a h u _ t q in record { answer = check-answer a h v _ p w e; table = cc }
+pub long-form : (f a : List ℕ) → 17 ≤ length a → (v : Checked) → v ≡ checkedOf (formAnswer f) → (w : List ℕ) → w ≡ checkedWords v → Forms f a (w ++ drop 17 a)
+long-form f a h v p w e = record { answer = checked-answer a h v _ p w e }
+
+pub long-references : (f t a : List ℕ) → 3 ≤ length a → (v : Fault) → v ≡ faultOf (referencesAnswer f t) → (u : List ℕ) → u ≡ referencesTable f t
+    → (w : List ℕ) → w ≡ faultWords v → Refers f t a u (w ++ drop 3 a)
+long-references f t a h v p u q w e =
+    let same : u ≡ touched 3 a (referencesTable f t) t = long-touched 3 a h u _ t q in record { answer = long-answer 3 a h w _ (e ∙ ap faultWords p); table = cc }
 
 pub long-rewrite : (f t o a : List ℕ) → 17 ≤ length a → (v : Checked) → v ≡ checkedOf (rewriteAnswer f t o) → (u : List ℕ) → u ≡ rewriteTable f t o
-    → (p : List ℕ) → p ≡ rewriteOutput f t o → (w : List ℕ) → w ≡ checkWords v → Rewrites f t o a u p (w ++ drop 17 a)
-long-rewrite f t o a h v x u y p z w e = record { answer = check-answer a h v _ x w e; table = long-touched 17 a h u _ t y; out = long-touched 17 a h p _ o z }
+    → (p : List ℕ) → p ≡ rewriteOutput f t o → (w : List ℕ) → w ≡ checkedWords v → Rewrites f t o a u p (w ++ drop 17 a)
+long-rewrite f t o a h v x u y p z w e = record { answer = checked-answer a h v _ x w e; table = long-touched 17 a h u _ t y; out = long-touched 17 a h p _ o z }
 
 pub long-pad : (f o a : List ℕ) → 4 ≤ length a → (v : Padded) → v ≡ paddedOf (padAnswer f o) → (p : List ℕ) → p ≡ padOutput f o
     → (w : List ℕ) → w ≡ paddedWords v → Pads f o a p (w ++ drop 4 a)

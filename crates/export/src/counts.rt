@@ -5,7 +5,7 @@ use kinds::Written;
 use padding::Padded;
 ghost use mathlib.Core.Path.{_≡_};
 ghost use lib.ListN.{length};
-ghost use Rattle.answers.specs.Answers.{Small, Counted, faultWords, checkWords, paddedWords};
+ghost use Rattle.answers.specs.Answers.{Small, Counted, faultWords, checkedWords, paddedWords};
 ghost use Rattle.answers.specs.Given.{writtenWords, Noted};
 
 // number, record, column.
@@ -31,7 +31,7 @@ fn put_counts(out: &mut [u32], counts: &[u32; 14])
 
 pub(crate) fn put_checked(out: &mut [u32], v: Checked)
     requires { ⌜ (length (now out) ≡ 17) × Counted v ⌝ }
-    ensures { λ _. ⌜ now (out .exit) ≡ checkWords v ⌝ }
+    ensures { λ _. ⌜ now (out .exit) ≡ checkedWords v ⌝ }
 {
     let fault = v.fault;
     let counts = v.counts;

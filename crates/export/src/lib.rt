@@ -5,6 +5,7 @@ mod readings;
 mod words;
 
 use crate::counts::put_checked;
+use crate::counts::put_fault;
 use crate::counts::put_padded;
 use crate::counts::put_written;
 use crate::given::give_record;
@@ -14,23 +15,36 @@ use padding::pad;
 use reading::field;
 use reading::read;
 use rewriting::rewrite;
-use walk::check;
+use walk::form;
+use walk::references;
 use writing::write;
-ghost use Rattle.answers.specs.Promise.{Checks, Rewrites, Pads, Reads, Finds, Writes};
+ghost use Rattle.answers.specs.Promise.{Forms, Refers, Rewrites, Pads, Reads, Finds, Writes};
 
 // number, record, column, and the fourteen counts.
 #[no_mangle]
-pub extern "C" fn shelf_check(file: &[u8], table: &mut [u32], answer: &mut [u32])
-    ensures { λ _. ⌜ Checks (now (file .entry)) (now (table .entry)) (now (answer .entry)) (now (table .exit)) (now (answer .exit)) ⌝ }
+pub extern "C" fn shelf_form(file: &[u8], answer: &mut [u32])
+    ensures { λ _. ⌜ Forms (now (file .entry)) (now (answer .entry)) (now (answer .exit)) ⌝ }
 {
     if answer.len() < 17 {
         return;
     }
-    let v = check(file, table);
+    let v = form(file);
     put_checked(&mut answer[0..17], v);
 }
 
-// The same of a rewriting.
+// number, record, column.
+#[no_mangle]
+pub extern "C" fn shelf_references(file: &[u8], table: &mut [u32], answer: &mut [u32])
+    ensures { λ _. ⌜ Refers (now (file .entry)) (now (table .entry)) (now (answer .entry)) (now (table .exit)) (now (answer .exit)) ⌝ }
+{
+    if answer.len() < 3 {
+        return;
+    }
+    let w = references(file, table);
+    put_fault(&mut answer[0..3], w);
+}
+
+// number, record, column, and the fourteen counts.
 #[no_mangle]
 pub extern "C" fn shelf_rewrite(file: &[u8], table: &mut [u32], out: &mut [u8], answer: &mut [u32])
     ensures { λ _. ⌜ Rewrites (now (file .entry)) (now (table .entry)) (now (out .entry)) (now (answer .entry)) (now (table .exit)) (now (out .exit)) (now (answer .exit)) ⌝ }

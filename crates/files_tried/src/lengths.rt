@@ -5,6 +5,7 @@ use crate::lent::WORD;
 use crate::lent::show_kept_bytes;
 use crate::lent::show_kept_words;
 use crate::print::show_checked;
+use crate::print::show_fault;
 use crate::print::text;
 
 fn show_table(table: &[u32]) {
@@ -36,9 +37,9 @@ fn try_output(file: &[u8], table: &mut [u32], n: usize) {
 
 fn short_table(file: &[u8]) {
     let mut table = [WORD; 11999];
-    text(b"a table of 11999 words\ncheck ");
-    let checked = walk::check(file, &mut table);
-    show_checked(checked);
+    text(b"a table of 11999 words\nreferences ");
+    let fault = walk::references(file, &mut table);
+    show_fault(fault);
     show_table(&table);
     try_output(file, &mut table, file.len());
 }

@@ -1,4 +1,4 @@
-// Runs check and rewrite over the whole files that its arguments name; then an accepted and a refused one with lengths that are too short; then compares files as rewritten; then pads inputs as editors leave them, and runs check and rewrite over the padded lines.
+// Runs form, references and rewrite over the whole files that its arguments name; then an accepted and a refused one with lengths that are too short; then compares files as rewritten; then pads inputs as editors leave them, and runs the three over the padded lines.
 mod compare;
 mod dress;
 mod input;

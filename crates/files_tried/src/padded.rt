@@ -1,4 +1,4 @@
-// Inputs as editors leave them through pad; check over the padded lines, and once rewrite.
+// Inputs as editors leave them through pad; form and references over the padded lines, and once rewrite.
 use crate::compare::bytes_differing;
 use crate::dress::rewrite_file;
 use crate::input::read_file;
@@ -46,10 +46,13 @@ fn show_part(part: &[u8]) {
     if part.len() <= 324 {
         show_lines(part);
     }
-    let mut table = [WORD; 12000];
-    text(b"check ");
-    let checked = walk::check(part, &mut table);
+    text(b"form ");
+    let checked = walk::form(part);
     show_checked(checked);
+    let mut table = [WORD; 12000];
+    text(b"references ");
+    let fault = walk::references(part, &mut table);
+    show_fault(fault);
 }
 
 // The lines are the first bytes of the output.

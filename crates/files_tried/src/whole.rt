@@ -1,10 +1,11 @@
-// One file through both calls, with a word more of table and a record more of output than they need.
+// One file through form, references and rewrite, with a word more of table and a record more of output than they need.
 use crate::compare::words_differing;
 use crate::lent::BYTE;
 use crate::lent::WORD;
 use crate::lent::show_kept_bytes;
 use crate::print::number;
 use crate::print::show_checked;
+use crate::print::show_fault;
 use crate::print::size;
 use crate::print::text;
 use crate::table::show_table;
@@ -59,10 +60,16 @@ fn show_output(fault: Fault, n: usize, out: &[u8]) {
     }
 }
 
-fn try_check(file: &[u8], table: &mut [u32; 12001]) {
-    text(b"check ");
-    let checked = walk::check(file, table);
+fn try_form(file: &[u8]) {
+    text(b"form ");
+    let checked = walk::form(file);
     show_checked(checked);
+}
+
+fn try_references(file: &[u8], table: &mut [u32; 12001]) {
+    text(b"references ");
+    let fault = walk::references(file, table);
+    show_fault(fault);
     show_table(table);
 }
 
@@ -71,7 +78,7 @@ fn try_rewrite(file: &[u8], before: &[u32; 12001], out: &mut [u8]) {
     text(b"rewrite ");
     let checked = rewriting::rewrite(file, &mut table, out);
     show_checked(checked);
-    text(b"words other than after check: ");
+    text(b"words other than after references: ");
     size(words_differing(&table, before));
     text(b"\n");
     let fault = checked.fault;
@@ -88,9 +95,10 @@ fn try_part(file: &[u8], before: &[u32; 12001], out: &mut [u8]) {
     }
 }
 
-fn try_both(file: &[u8]) {
+fn try_calls(file: &[u8]) {
     let mut table = [WORD; 12001];
-    try_check(file, &mut table);
+    try_form(file);
+    try_references(file, &mut table);
     let mut out = [BYTE; 262225];
     try_part(file, &table, &mut out);
 }
@@ -101,6 +109,6 @@ pub(crate) fn try_whole(name: &[u8], file: &[u8]) {
     text(b", bytes ");
     size(file.len());
     text(b"\n");
-    try_both(file);
+    try_calls(file);
     text(b"\n");
 }

@@ -8,6 +8,7 @@ use Rattle.rules.specs.Items.{Value, gap, missing, num, text, label}
 use Rattle.rules.specs.Fields.{Verdict, ok, fault}
 use Rattle.rules.specs.Fields as fields
 use Rattle.rules.specs.Records.{Meaning}
+use Rattle.rules.specs.Files.{Result, accept, refuse}
 use Rattle.rules.specs.Kinds.{kindOf}
 use Rattle.rules.specs.Calls as calls
 use Rattle.columns.specs.Types.{natOf, intOf, heightOf, heightValue, mediaOf, mediaValue, four, fourOf}
@@ -16,6 +17,7 @@ use Rattle.kinds.specs.declared.Three.{Three}
 use Rattle.kinds.specs.declared.Sequence.{Sequence}
 use Rattle.kinds.specs.declared.Record.{Record}
 use Rattle.kinds.specs.declared.Record.the-variants as R
+use Rattle.kinds.specs.declared.Fault.{Fault}
 use Rattle.kinds.specs.declared.Checked.{Checked}
 use Rattle.kinds.specs.declared.Reading.{Reading}
 use Rattle.kinds.specs.declared.Written.{Written}
@@ -166,6 +168,11 @@ recordOf m = recordFrom (kindOf (m .code)) (m .code) (λ i. getD (m .values) i g
 -- ---- answers
 unfoldable pub checkedOf : calls.Answer → Checked
 checkedOf a = record { fault = record { number = a .number; «record» = a .place; column = a .column }; counts = a .counts }
+
+-- a verdict on a file without counts; the number 0 is acceptance
+unfoldable pub faultOf : Result → Fault
+faultOf accept = record { number = 0; «record» = 0; column = 0 }
+faultOf (refuse n r c) = record { number = n; «record» = r; column = c }
 
 unfoldable pub readingOf : calls.Reading → Reading
 readingOf (calls.values q m) = Reading.Values (sequenceOf q) (recordOf m)

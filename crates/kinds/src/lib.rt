@@ -734,7 +734,7 @@ pub struct Fault {
     pub column: usize,
 }
 
-// What check and rewrite answer: a fault, number 0 for acceptance, and a count of each kind of record, all 0 after a refusal.
+// What form and rewrite answer: a fault, number 0 for acceptance, and a count of each kind of record, all 0 after a refusal.
 pub struct Checked {
     pub fault: Fault,
     pub counts: [u32; 14],

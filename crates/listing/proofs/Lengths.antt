@@ -9,7 +9,7 @@ use Rattle.rules.specs.Tests.{_&_, _≤?_, _=?_, all}
 use Rattle.rules.specs.Characters.{ascii}
 use Rattle.rules.specs.Digits.{put, stripped, numeral}
 use Rattle.rules.specs.Sheet.{tabbed, fileLine, kindNames, kindLines, listed, sheet}
-use Rattle.rules.specs.Calls.{Answer, checkAnswer}
+use Rattle.rules.specs.Calls.{Answer, fileAnswer}
 use Rattle.rules.proofs.Truth.{both, to≤, cases}
 use Rattle.rules.proofs.DigitLaws.{length-put}
 
@@ -81,4 +81,4 @@ listed-sized blocks a =
 pub sheet-sized : (input table : List ℕ) → Sized (sheet input table)
 unfolding sheet
 sheet-sized input table =
-    cases (length input ≤? 64_800) (λ e. rw e (listed-sized (length input / 81) (checkAnswer input table))) (λ e. rw e (file-sized 0 1 0 0))
+    cases (length input ≤? 64_800) (λ e. rw e (listed-sized (length input / 81) (fileAnswer input table))) (λ e. rw e (file-sized 0 1 0 0))

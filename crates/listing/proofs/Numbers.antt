@@ -11,7 +11,7 @@ use Rattle.rules.specs.Records.{Meaning, meaning}
 use Rattle.rules.specs.Files.{Result, accept, refuse, begun, lines, meanings}
 use Rattle.rules.specs.References.{isA, tabulate, tally, counts}
 use Rattle.rules.specs.Chapter4.{chapter4}
-use Rattle.rules.specs.Calls.{outcome, bigTable, answer, checkAnswer}
+use Rattle.rules.specs.Calls.{outcome, bigTable, answer, fileAnswer}
 use Rattle.rules.proofs.Truth.{and, to≤, of≤, cases, all-getD, all-replicate}
 use Rattle.rules.proofs.DigitLaws.{val-numeral}
 use Rattle.rules.proofs.FileLaws.{records}
@@ -41,25 +41,25 @@ module _ (f t : List ℕ) (h : length f ≤ 64_800) where
   unfolding meanings begun
   meanings-most = rw (length-map (lines f) (meaning chapter4)) (omega (arith, records f))
 
-  bounded : Bounded (checkAnswer f t)
-  unfolding checkAnswer
+  bounded : Bounded (fileAnswer f t)
+  unfolding fileAnswer
   bounded = answer-bounded (bigTable t) f (meanings chapter4 f)
 
   -- every number of the sheet reads back from what is printed
   pub blocks-whole : val 0 (numeral (length f / 81)) ≡ length f / 81
   blocks-whole = val-numeral (length f / 81) (omega arith)
 
-  pub number-whole : val 0 (numeral (checkAnswer f t .number)) ≡ checkAnswer f t .number
+  pub number-whole : val 0 (numeral (fileAnswer f t .number)) ≡ fileAnswer f t .number
   number-whole = val-numeral _ (omega (arith, bounded .number))
 
-  pub place-whole : val 0 (numeral (checkAnswer f t .place)) ≡ checkAnswer f t .place
+  pub place-whole : val 0 (numeral (fileAnswer f t .place)) ≡ fileAnswer f t .place
   place-whole = val-numeral _ (omega (arith, bounded .place))
 
-  pub column-whole : val 0 (numeral (checkAnswer f t .column)) ≡ checkAnswer f t .column
+  pub column-whole : val 0 (numeral (fileAnswer f t .column)) ≡ fileAnswer f t .column
   column-whole = val-numeral _ (omega (arith, bounded .column))
 
-  pub count-whole : (k : ℕ) → val 0 (numeral (getD (checkAnswer f t .counts) k 0)) ≡ getD (checkAnswer f t .counts) k 0
-  unfolding checkAnswer
+  pub count-whole : (k : ℕ) → val 0 (numeral (getD (fileAnswer f t .counts) k 0)) ≡ getD (fileAnswer f t .counts) k 0
+  unfolding fileAnswer
   count-whole k = val-numeral _ (omega (arith, few-at k))
     where
       few-at : (i : ℕ) → getD (answer (outcome (bigTable t) f) (meanings chapter4 f) .counts) i 0 ≤ 800

@@ -8,7 +8,7 @@ use native.Mathlib.Omega.{arith}
 use lib.ListN.{length, drop}
 use Rattle.rules.specs.Tests.{_&_}
 use Rattle.rules.specs.Sheet.{fileLine, kindNames, kindLines, listed, sheet}
-use Rattle.rules.specs.Calls.{checkAnswer, checkTable}
+use Rattle.rules.specs.Calls.{fileAnswer, referencesTable}
 use Rattle.rules.proofs.Truth.{of≤, of>, of≡, of≢}
 use Rattle.kinds.specs.declared.Checked.{Checked}
 use Rattle.kinds.specs.Values.{checkedOf}
@@ -90,7 +90,7 @@ module _ (f t o : List ℕ) (h : 512 ≤ length o) where
     large-table = rw (big, of> {m = length f} {n = 64_800} k)
 
   -- any other
-  module _ (k : length f ≤ 64_800) (v : Checked) (a : v ≡ checkedOf (checkAnswer f t)) where
+  module _ (k : length f ≤ 64_800) (v : Checked) (a : v ≡ checkedOf (fileAnswer f t)) where
     found-text : listed (length f / 81) (answerIn v) ≡ sheet f t
     unfolding sheet
     found-text = rw (of≤ k, a) (unfold answerIn checkedOf in refl)
@@ -101,6 +101,6 @@ module _ (f t o : List ℕ) (h : 512 ≤ length o) where
     pub found-output : {r : ℕ} {left : List ℕ} → Laid 0 315 (listed (length f / 81) (answerIn v)) o r left → left ≡ listOutput f t o
     found-output p = text-output found-text p
 
-  pub found-table : length f ≤ 64_800 → {u : List ℕ} → u ≡ checkTable f t → u ≡ listTable f t o
+  pub found-table : length f ≤ 64_800 → {u : List ℕ} → u ≡ referencesTable f t → u ≡ listTable f t o
   unfolding listTable _&_
   found-table k e = e ∙ rw (big, of≤ k)

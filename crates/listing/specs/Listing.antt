@@ -7,7 +7,7 @@ use lib.ListN.{length, drop, getD}
 use Rattle.rules.specs.Tests.{_&_, _≤?_}
 use Rattle.rules.specs.Characters.{ascii}
 use Rattle.rules.specs.Digits.{numeral}
-use Rattle.rules.specs.Calls.{Answer, checkTable}
+use Rattle.rules.specs.Calls.{Answer, referencesTable}
 use Rattle.rules.specs.Sheet.{tabbed, kindNames, sheet}
 use Rattle.kinds.specs.declared.Checked.{Checked}
 
@@ -23,9 +23,9 @@ listAnswer input table out = cond (bigEnough out) (length (sheet input table)) 0
 unfoldable pub listOutput : List ℕ → List ℕ → List ℕ → List ℕ
 listOutput input table out = cond (bigEnough out) (sheet input table ++ drop (length (sheet input table)) out) out
 
--- as check leaves it; too large an input and too short an output leave it as it was
+-- as references leave it; too large an input and too short an output leave it as it was
 unfoldable pub listTable : List ℕ → List ℕ → List ℕ → List ℕ
-listTable input table out = cond (bigEnough out & length input ≤? 64_800) (checkTable input table) table
+listTable input table out = cond (bigEnough out & length input ≤? 64_800) (referencesTable input table) table
 
 -- the promise: the answer r to an input f, and what is left of the table t and of the output o
 pub record Promised (f t o : List ℕ) (r : ℕ) (words left : List ℕ) : Type 0 where

@@ -49,6 +49,6 @@ pub fn list(input: &[u8], table: &mut [u32], out: &mut [u8]) -> usize
         };
         return list_file(out, 0, fault);
     }
-    let found = walk::check(input, table);
+    let found = walk::judge(input, table);
     list_checked(out, n / 81, found)
 }

@@ -1,4 +1,4 @@
--- A file that check accepts, after pad, from the promises alone.
+-- A file that references accept, after pad, from the promises alone.
 use mathlib.Core.Path.{_≡_, sym, _∙_, subst}
 use mathlib.Core.Bool.{true}
 use mathlib.Core.List.{List, _++_}
@@ -6,21 +6,20 @@ use Prim.Native.Nat.{ℕ, _*_, _≤_}
 use lib.ListN.{length, take, drop}
 use Rattle.rules.specs.Files.{lines, accepted}
 use Rattle.rules.specs.Chapter4.{chapter4}
-use Rattle.rules.proofs.Demands.{accepted-iff}
 use Rattle.rules.proofs.PaddingLaws.{accepted-pads}
-use Rattle.kinds.specs.declared.Checked.{Checked}
-use Rattle.walk.specs.Promise as check
-use Rattle.walk.proofs.CheckDemands.{taken, demand-2-check}
+use Rattle.kinds.specs.declared.Fault.{Fault}
+use Rattle.walk.specs.Promise as walk
+use Rattle.walk.proofs.CallDemands.{zero-accepted}
 use Rattle.rewriting.specs.Promise as rewrite
 use Rattle.padding.specs.declared.Padded.{Padded}
 use Rattle.padding.specs.Promise as pad
 use Rattle.padding.proofs.PadDemands.{demand-2-pad, accepted-unchanged}
 use Rattle.padded_files.specs.AfterPad.{Unchanged}
 
--- a file that check accepts, which it does with a full-size table alone
-module _ (f t : List ℕ) (w : Checked) (u : List ℕ) (promised : check.Promised f t w u) (zero : w .fault .number ≡ 0) where
+-- a file that references accept, which they do with a full-size table and a good form alone
+module _ (f t : List ℕ) (w : Fault) (u : List ℕ) (promised : walk.ReferencesPromised f t w u) (zero : w .number ≡ 0) where
   is-accepted : accepted chapter4 f ≡ true
-  is-accepted = accepted-iff f .1 (demand-2-check f t w u promised .faultless (taken f t w u promised zero) .0 zero)
+  is-accepted = zero-accepted f t w u promised zero .1
 
   -- every padding of it with an output as long as the file takes it, and changes nothing
   pub unchanged : (o : List ℕ) (v : Padded) (p : List ℕ) → length f ≤ length o → pad.Promised f o v p → Unchanged f v p
@@ -28,7 +27,8 @@ module _ (f t : List ℕ) (w : Checked) (u : List ℕ) (promised : check.Promise
     good = its .0;
     as-many = its .1;
     same = same;
-    checks = λ t w u. (subst (λ a. check.Promised a t w u) same, subst (λ a. check.Promised a t w u) (sym same));
+    forms = λ w. (subst (λ a. walk.FormPromised a w) same, subst (λ a. walk.FormPromised a w) (sym same));
+    refers = λ t w u. (subst (λ a. walk.ReferencesPromised a t w u) same, subst (λ a. walk.ReferencesPromised a t w u) (sym same));
     rewrites = λ t o w u q. (subst (λ a. rewrite.Promised a t o w u q) same, subst (λ a. rewrite.Promised a t o w u q) (sym same));
   }
     where

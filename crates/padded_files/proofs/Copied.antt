@@ -1,4 +1,4 @@
--- "A carriage return anywhere else is copied, for check to refuse": what check says of a padded file in which a line has one, from the promises alone.
+-- "A carriage return anywhere else is copied, for check to refuse": what form says of a padded file in which a line has one, from the promises alone.
 use mathlib.Core.Path.{_≡_, _∙_, ap}
 use mathlib.Core.Bool.{true}
 use mathlib.Core.List.{List, [], _∷_, _++_}
@@ -10,16 +10,16 @@ use Rattle.rules.specs.Tests.{all}
 use Rattle.rules.specs.Members.{_∈_}
 use Rattle.rules.specs.Characters.{isPrintable}
 use Rattle.rules.specs.Files.{accept, lineAt, begun}
-use Rattle.rules.specs.Conforms.{Conforms}
+use Rattle.rules.specs.Conforms.{Formed}
 use Rattle.rules.specs.Padding.{texts, padded, judgeTexts}
 use Rattle.rules.proofs.Truth.{all-parts, all-members}
 use Rattle.rules.proofs.SetLaws.{printed-of}
 use Rattle.rules.proofs.PaddingLaws.{padded-long, padded-line, not-printed, short-at}
 use Rattle.kinds.specs.declared.Checked.{Checked}
-use Rattle.walk.specs.Promise as check
+use Rattle.walk.specs.Promise as walk
 use Rattle.padding.proofs.PadDemands.{passed}
 use Rattle.padded_files.specs.AfterPad.{Padding, padded-part}
-use Rattle.padded_files.proofs.OverPadded.{checks}
+use Rattle.padded_files.proofs.OverPadded.{forms}
 
 -- a line of the padded file begins with its source line
 module _ (f : List ℕ) (good : judgeTexts 1 (texts f) ≡ accept) (i : ℕ) (h : i < length (texts f)) where
@@ -34,14 +34,14 @@ module _ (f : List ℕ) (good : judgeTexts 1 (texts f) ≡ accept) (i : ℕ) (h 
   unfolding begun
   its-record = omega (arith, padded-long f good)
 
-  conforming-printed : Conforms (padded f) → all isPrintable (getD (texts f) i []) ≡ true
-  conforming-printed c =
+  formed-printed : Formed (padded f) → all isPrintable (getD (texts f) i []) ≡ true
+  formed-printed c =
       let w = columns in
       all-parts isPrintable (getD (texts f) i []) (w .0) (rw (w .1) at (printed-of _ (c .each i its-record .printed))) .0
 
--- no check with a full-size table accepts what pad left, where a line of the input has a CR
+-- form accepts nothing that pad left where a line of the input has a CR
 pub copied-refused : {f : List ℕ} (x : Padding f) (i : ℕ) → i < length (texts f) → 13 ∈ getD (texts f) i []
-    → (t : List ℕ) → 12_000 ≤ length t → (v : Checked) (u : List ℕ) → check.Promised (padded-part x) t v u → v .fault .number ≡ 0 → ⊥
-copied-refused {f} x i h cr t big v u p zero =
+    → (v : Checked) → walk.FormPromised (padded-part x) v → v .fault .number ≡ 0 → ⊥
+copied-refused {f} x i h cr v p zero =
     let good = passed f (x .output) (x .answer) (x .output-left) (x .promised) (x .good) in
-    not-printed 13 (all-members isPrintable (getD (texts f) i []) (conforming-printed f good i h (checks x t v u p .judging .conforming big .0 zero)) 13 cr) (omega arith)
+    not-printed 13 (all-members isPrintable (getD (texts f) i []) (formed-printed f good i h (forms x v p .judging .forming .0 zero)) 13 cr) (omega arith)

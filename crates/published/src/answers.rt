@@ -5,8 +5,9 @@ use crate::records::lay_read;
 use crate::records::lay_written;
 use crate::text::SPACE;
 use crate::text::lay;
-use crate::whole::lay_checked;
+use crate::whole::lay_formed;
 use crate::whole::lay_listed;
+use crate::whole::lay_referred;
 use crate::whole::lay_rewritten;
 use check::same;
 
@@ -15,14 +16,18 @@ pub(crate) enum Call {
     Read,
     Field,
     Write,
-    Check,
+    Form,
+    References,
     Rewrite,
     List,
 }
 
 fn whole_call(name: &[u8]) -> Call {
-    if same(name, b"check") {
-        return Call::Check;
+    if same(name, b"form") {
+        return Call::Form;
+    }
+    if same(name, b"references") {
+        return Call::References;
     }
     if same(name, b"rewrite") {
         return Call::Rewrite;
@@ -52,7 +57,8 @@ pub(crate) fn lay_answer(out: &mut [u8; SPACE], call: Call, file: &[u8], spot: S
         Call::Read => lay_read(out, file, spot),
         Call::Field => lay_field(out, file, spot),
         Call::Write => lay_written(out, file, spot),
-        Call::Check => lay_checked(out, file),
+        Call::Form => lay_formed(out, file),
+        Call::References => lay_referred(out, file),
         Call::Rewrite => lay_rewritten(out, file, spot),
         Call::List => lay_listed(out, file),
     }

@@ -1,4 +1,4 @@
-// The calls on a whole file: check, rewrite and the sheet's list.
+// The calls on a whole file: form, references, rewrite and the sheet's list.
 use crate::cells::Spot;
 use crate::faults::lay_fault;
 use crate::faults::lay_outcome;
@@ -35,9 +35,17 @@ fn lay_verdict(out: &mut [u8; SPACE], c: Checked) -> usize {
     lay_fault(out, fault)
 }
 
-pub(crate) fn lay_checked(out: &mut [u8; SPACE], file: &[u8]) -> usize {
+pub(crate) fn lay_formed(out: &mut [u8; SPACE], file: &[u8]) -> usize {
+    lay_verdict(out, walk::form(file))
+}
+
+pub(crate) fn lay_referred(out: &mut [u8; SPACE], file: &[u8]) -> usize {
     let mut table = [0u32; 12000];
-    lay_verdict(out, walk::check(file, &mut table))
+    let fault = walk::references(file, &mut table);
+    if fault.number == 0 {
+        return lay(out, 0, b"accepted");
+    }
+    lay_fault(out, fault)
 }
 
 fn rewrite_file(file: &[u8], space: &mut [u8; SPACE]) -> Fault {

@@ -11,22 +11,23 @@ use Rattle.rules.specs.Tests.{_≤?_}
 use Rattle.rules.specs.Items.{valueOf}
 use Rattle.rules.specs.Records.{sequence, codeAt}
 use Rattle.rules.specs.Kinds.{kindOf}
-use Rattle.rules.specs.Files.{accept, refuse, isAccept, lines, meanings, verdict, accepted, rewritten}
+use Rattle.rules.specs.Files.{Result, accept, refuse, isAccept, lines, meanings, formVerdict, referenceVerdict, verdict, accepted, rewritten}
 use Rattle.rules.specs.References.{words}
 use Rattle.rules.specs.Faults.{FirstOf, CallFaults}
-use Rattle.rules.specs.Calls.{outcome, bigTable, bigOutput, answer, tableLeft, outputLeft, checkAnswer, checkTable, rewriteRoom, rewriteAnswer, rewriteTable, rewriteOutput}
+use Rattle.rules.specs.Calls.{outcome, bigTable, bigOutput, answer, tableLeft, outputLeft, formAnswer, fileAnswer, referencesTable, rewriteRoom, rewriteAnswer, rewriteTable, rewriteOutput}
 use Rattle.rules.specs.Chapter4.{chapter4}
 use Rattle.rules.specs.Demands.{Demand3}
 use Rattle.rules.proofs.Truth.{both, and, of≤, to≤, no≤, cases}
-use Rattle.rules.proofs.FileLaws.{is-accept, keeps-length}
+use Rattle.rules.proofs.FileLaws.{is-accept, then-accept, keeps-length}
 use Rattle.rules.proofs.Chapter4Laws.{sound}
 use Rattle.rules.proofs.ReferenceLaws.{length-words}
 use Rattle.rules.proofs.Bounds.{zero-accepts}
 use Rattle.rules.proofs.Demands.{demand-2, demand-3}
 use Rattle.kinds.specs.declared.Checked.{Checked}
 use Rattle.kinds.specs.Values.{checkedOf}
-use Rattle.walk.specs.Promise as check
-use Rattle.walk.proofs.CheckDemands.{refused-1, number-bad, names, named-is, taken, demand-1, demand-2-check}
+use Rattle.walk.specs.Promise as walk
+use Rattle.walk.proofs.TogetherDemands.{refused-1, number-bad, names, named-is, taken, demand-1-together, demand-2-together}
+use Rattle.walk.proofs.CallDemands.{accepted-zero, demand-2-references}
 use Rattle.rewriting.specs.Promise.{Promised, Refusing, Judging, Run, styled, Rewrites}
 use Rattle.rewriting.proofs.RewriteLaws.{no-room, tight-table, tight-output, by-table, kept-output}
 
@@ -36,11 +37,11 @@ one-result f t o v w u x p q a b = (a .answered ∙ sym (b .answered), a .left �
 
 -- ---- demands 1 and 2
 module _ (f t o : List ℕ) (v : Checked) (u p : List ℕ) (promised : Promised f t o v u p) where
-  -- with an output as long as the file: what check promises
-  as-promised : length f ≤ length o → check.Promised f t v u
+  -- with an output as long as the file: what form and references promise together
+  as-promised : length f ≤ length o → walk.Together f t v u
   as-promised k = record {
-    answered = promised .answered ∙ (unfold rewriteAnswer checkAnswer in rw (by-table f t o k));
-    left = promised .left ∙ (unfold rewriteTable checkTable in rw (by-table f t o k));
+    answered = promised .answered ∙ (unfold rewriteAnswer fileAnswer in rw (by-table f t o k));
+    left = promised .left ∙ (unfold rewriteTable referencesTable in rw (by-table f t o k));
   }
 
   -- with a shorter one: refusal 1
@@ -51,15 +52,15 @@ module _ (f t o : List ℕ) (v : Checked) (u p : List ℕ) (promised : Promised 
   demand-1-rewrite =
       cases (length f ≤? length o)
       (λ b. record {
-        as-check = demand-1 f t v u (as-promised (to≤ b));
+        as-both = demand-1-together f t v u (as-promised (to≤ b));
         unwritten = λ n. promised .written ∙ sym (kept-output f t o (to≤ b) v (as-promised (to≤ b) .answered) n);
       })
       (λ b. record {
-        as-check = refused-1 f v t u (tight (no≤ b)) (promised .left ∙ sym (tight-table f t o (no≤ b)));
+        as-both = refused-1 f v t u (tight (no≤ b)) (promised .left ∙ sym (tight-table f t o (no≤ b)));
         unwritten = λ n. promised .written ∙ sym (tight-output f t o (no≤ b));
       })
 
-  names-outcome : check.named v ≡ outcome (rewriteRoom f t o) f
+  names-outcome : walk.named v ≡ outcome (rewriteRoom f t o) f
   names-outcome =
       cases (length f ≤? length o)
       (λ b. named-is f t v u (as-promised (to≤ b)) ∙ ap (λ (enough : Bool). outcome enough f) (sym (by-table f t o (to≤ b))))
@@ -70,7 +71,7 @@ module _ (f t o : List ℕ) (v : Checked) (u p : List ℕ) (promised : Promised 
     first = subst (FirstOf (CallFaults chapter4 (rewriteRoom f t o) f)) (sym names-outcome) (demand-2 (rewriteRoom f t o) f .first);
     unique = λ w h. demand-2 (rewriteRoom f t o) f .unique w h ∙ sym names-outcome;
     room = λ z. cases (length f ≤? length o) (λ b. (taken f t v u (as-promised (to≤ b)) z, to≤ b)) (λ b. absurd (omega (arith, z, number-bad f v 1 0 0 (tight (no≤ b)))));
-    as-check = λ k. demand-2-check f t v u (as-promised k);
+    as-both = λ k. demand-2-together f t v u (as-promised k);
   }
 
 -- ---- a run with room over an accepted file
@@ -139,19 +140,14 @@ module _ (a : List ℕ) (x : Run a) where
       left : x .table-left ≡ words (meanings chapter4 a) ++ drop 12_000 (x .table)
       left = x .promised .left ∙ (unfold rewriteTable tableLeft isAccept in rw (roomy .0, verdict-accept))
 
--- a check of an accepted file with a full-size table
-module _ (f t : List ℕ) (v : Checked) (u : List ℕ) (h : 12_000 ≤ length t) (good : accepted chapter4 f ≡ true) (p : check.Promised f t v u) where
-  through : verdict chapter4 f ≡ accept
-  through = is-accept (verdict chapter4 f) (unfold accepted in good)
+-- the form of an accepted file
+form-good : (f : List ℕ) → accepted chapter4 f ≡ true → formVerdict chapter4 f ≡ accept
+unfolding accepted verdict
+form-good f h = is-accept (formVerdict chapter4 f) (both (sym (then-accept (formVerdict chapter4 f) (referenceVerdict chapter4 f)) ∙ h) .0)
 
-  checks : v ≡ checkedOf (answer accept (meanings chapter4 f))
-  checks = p .answered ∙ (unfold checkAnswer outcome bigTable in rw (of≤ {m = 12_000} {n = length t} h, through))
-
-  fills : take 12_000 u ≡ words (meanings chapter4 f)
-  fills = ap (take 12_000) left ∙ take-at (words (meanings chapter4 f)) (drop 12_000 t) 12_000 (length-words (meanings chapter4 f))
-    where
-      left : u ≡ words (meanings chapter4 f) ++ drop 12_000 t
-      left = p .left ∙ (unfold checkTable tableLeft bigTable isAccept in rw (of≤ {m = 12_000} {n = length t} h, through))
+forms : (f : List ℕ) (v : Checked) → accepted chapter4 f ≡ true → walk.FormPromised f v → v ≡ checkedOf (answer accept (meanings chapter4 f))
+unfolding formAnswer
+forms f v h p = p .answered ∙ ap (λ (x : Result). checkedOf (answer x (meanings chapter4 f))) (form-good f h)
 
 -- ---- demand 3
 pub demand-3-rewrite : (a b : List ℕ) (x : Run a) (y : Run b) → Rewrites a b x y
@@ -163,10 +159,12 @@ demand-3-rewrite a b x y = record {
   kinds = ap (λ (s : List ℕ). map (λ l. kindOf (codeAt l)) (lines s)) (its-style a x) ∙ d .kinds;
   numbered = λ i k. ap (λ (s : List ℕ). valueOf sequence (take 6 (getD (lines s) i []))) (its-style a x) ∙ d .numbered i k;
   beyond = its-rest a x;
-  accepted-again = λ t v u h p. (
-    checks (styled x) t v u h again p ∙ ap (λ ms. checkedOf (answer accept ms)) means ∙ sym (its-answer a x),
-    fills (styled x) t v u h again p ∙ ap words means ∙ sym (its-words a x),
-  );
+  accepted-again = λ t v w u h p q.
+      let zero : w .number ≡ 0 = accepted-zero (styled x) t w u q h again in (
+        forms (styled x) v again p ∙ ap (λ ms. checkedOf (answer accept ms)) means ∙ sym (its-answer a x),
+        zero,
+        demand-2-references (styled x) t w u q .filled zero ∙ ap words means ∙ sym (its-words a x),
+      );
   settled = λ t o v u p h k q.
       ap (λ n. take n p) (sym long) ∙ writes-first (styled x) t o v u p h (subst (λ n. n ≤ length o) (sym long) k) again q ∙ ap (rewritten chapter4) (its-style a x) ∙ d .settled ∙ sym (its-style a x);
 }

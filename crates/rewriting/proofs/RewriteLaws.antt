@@ -1,4 +1,4 @@
--- The call: room, what check answers, and what then stands in the output.
+-- The call: room, what form and references answer together, and what then stands in the output.
 use mathlib.Core.Path.{_≡_, refl, sym, _∙_, ap}
 use mathlib.Core.Bool.{Bool, true, false, cond, false≢true}
 use mathlib.Core.List.{List, _++_}
@@ -6,7 +6,7 @@ use Prim.Native.Nat.{ℕ, _+_, _≤_, _<_}
 use lib.ListN.{length, drop}
 use Rattle.rules.specs.Tests.{_&_}
 use Rattle.rules.specs.Files.{Result, accept, refuse, isAccept, lines, meanings, verdict, accepted, rewritten, formedLines}
-use Rattle.rules.specs.Calls.{outcome, bigTable, bigOutput, answer, tableLeft, outputLeft, checkAnswer, checkTable, rewriteRoom, rewriteAnswer, rewriteTable, rewriteOutput}
+use Rattle.rules.specs.Calls.{outcome, bigTable, bigOutput, answer, tableLeft, outputLeft, fileAnswer, referencesTable, rewriteRoom, rewriteAnswer, rewriteTable, rewriteOutput}
 use Rattle.rules.specs.Chapter4.{chapter4}
 use Rattle.rules.proofs.Truth.{of≤, of>, cases, and-true}
 use Rattle.rules.proofs.FileLaws.{accepted-parts}
@@ -36,23 +36,23 @@ module _ (f t o : List ℕ) (h : length o < length f) where
   unfolding rewriteOutput outputLeft outcome isAccept
   tight-output = rw no-room
 
--- ---- with room it goes by the table, as check does
+-- ---- with room it goes by the table, as references do
 module _ (f t o : List ℕ) (h : length f ≤ length o) where
   pub by-table : rewriteRoom f t o ≡ bigTable t
   unfolding rewriteRoom bigOutput
   by-table = rw (of≤ h) (and-true (bigTable t))
 
-  module _ (v : Checked) (e : v ≡ checkedOf (checkAnswer f t)) where
+  module _ (v : Checked) (e : v ≡ checkedOf (fileAnswer f t)) where
     pub roomy-answer : v ≡ checkedOf (rewriteAnswer f t o)
-    unfolding rewriteAnswer checkAnswer
+    unfolding rewriteAnswer fileAnswer
     roomy-answer = e ∙ rw by-table
 
-    pub roomy-table : (u : List ℕ) → u ≡ checkTable f t → u ≡ rewriteTable f t o
-    unfolding rewriteTable checkTable
+    pub roomy-table : (u : List ℕ) → u ≡ referencesTable f t → u ≡ rewriteTable f t o
+    unfolding rewriteTable referencesTable
     roomy-table u q = q ∙ rw by-table
 
     taken : v .fault .number ≡ 0 → isAccept (outcome (bigTable t) f) ≡ true
-    taken z = zero-accepts (bigTable t) f (meanings chapter4 f) (unfold checkedOf checkAnswer in (rw e at z))
+    taken z = zero-accepts (bigTable t) f (meanings chapter4 f) (unfold checkedOf fileAnswer in (rw e at z))
 
     -- an accepted file has good lines
     pub good-lines : v .fault .number ≡ 0 → formedLines chapter4 1 (lines f) ≡ true
@@ -70,8 +70,8 @@ module _ (f t o : List ℕ) (h : length f ≤ length o) where
     unfolding rewriteOutput outputLeft
     kept-output n = rw by-table (by (outcome (bigTable t) f) refl)
       where
-        told : (x : Result) → x ≡ outcome (bigTable t) f → checkedOf (checkAnswer f t) ≡ checkedOf (answer x (meanings chapter4 f))
-        told x z = unfold checkAnswer in ap (λ (y : Result). checkedOf (answer y (meanings chapter4 f))) (sym z)
+        told : (x : Result) → x ≡ outcome (bigTable t) f → checkedOf (fileAnswer f t) ≡ checkedOf (answer x (meanings chapter4 f))
+        told x z = unfold fileAnswer in ap (λ (y : Result). checkedOf (answer y (meanings chapter4 f))) (sym z)
 
         zero-told : checkedOf (answer accept (meanings chapter4 f)) .fault .number ≡ 0
         zero-told = unfold checkedOf answer in refl

@@ -4,7 +4,7 @@ use kinds::Checked;
 use reading::lines::count_begun;
 use reading::lines::line;
 use styling::styles::restyle;
-use walk::check;
+use walk::judge;
 use walk::records::refused;
 ghost use mathlib.Core.Path.{_≡_};
 ghost use mathlib.Core.Bool.{true};
@@ -31,14 +31,14 @@ fn style_lines(file: &[u8], out: &mut [u8])
     }
 }
 
-// Table and faults as for check. The output gets the rewritten file from its first byte on; a refusal leaves it as it was.
+// Faults as form and references have them together, and the table as references. The output gets the rewritten file from its first byte on; a refusal leaves it as it was.
 pub fn rewrite(file: &[u8], table: &mut [u32], out: &mut [u8]) -> Checked
     ensures { λ v. ⌜ Promised (now (file .entry)) (now (table .entry)) (now (out .entry)) v (now (table .exit)) (now (out .exit)) ⌝ }
 {
     if out.len() < file.len() {
         return refused(1, 0, 0);
     }
-    let v = check(file, table);
+    let v = judge(file, table);
     if v.fault.number == 0 {
         style_lines(file, out);
     }

@@ -10,17 +10,17 @@ use Rattle.rules.specs.Tests.{all, within, _&_, _≤?_, _=?_}
 use Rattle.rules.specs.Items.{Value, width, good, spot}
 use Rattle.rules.specs.Fields.{Field, Expect, Entry, Verdict, ok, fault, _⨾_, check, Check, columnsOf, read, given, entriesOf, covers}
 use Rattle.rules.specs.Records.{Meaning, Edition, sequence, codeAt, entries, readLine, told, judgeGiven}
-use Rattle.rules.specs.Files.{Result, accept, refuse, isAccept, lineAt, begun, lines, walk, verdict}
+use Rattle.rules.specs.Files.{Result, accept, refuse, isAccept, lineAt, begun, formVerdict, referenceVerdict, verdict, andThen}
 use Rattle.rules.specs.References.{refChecks}
-use Rattle.rules.specs.Faults.{Faults, FileFaults, Fails, Some, ByteFaults, FieldFaults, CheckFaults, stage, phase, Precedes, First, FirstOf, LineFaults, ReadFaults, GivenFaults, RecordFaults, HasFault}
+use Rattle.rules.specs.Faults.{Faults, FileFaults, Fails, Some, ByteFaults, FieldFaults, CheckFaults, stage, phase, Precedes, First, FirstOf, LineFaults, ReadFaults, GivenFaults, RecordFaults, FormFault, ReferenceFault, HasFault}
 use Rattle.rules.specs.Calls.{outcome, Answer, answer, unread, readAs, readOf, writeVerdict}
 use Rattle.rules.specs.Chapter4.{chapter4}
 use Rattle.rules.proofs.Truth.{both, and, to≤, of≤, of>, no≤, to≡, to-within, cases, either}
 use Rattle.rules.proofs.Lawful.{spot-inside}
 use Rattle.rules.proofs.FieldLaws.{covers-end}
-use Rattle.rules.proofs.RecordLaws.{Sound}
+use Rattle.rules.proofs.FileLaws.{is-accept}
 use Rattle.rules.proofs.FaultLaws.{first-read, first-given}
-use Rattle.rules.proofs.FileFaults.{SoundRefs, first-walk, to-fault, has-later, first-verdict}
+use Rattle.rules.proofs.FileFaults.{SoundRefs, first-form, first-reference, has-later, first-verdict}
 use Rattle.rules.proofs.Chapter4Laws.{layout-covers, sound, sound-refs}
 
 -- a number from lo to hi, in columns 1 to last
@@ -120,20 +120,27 @@ module _ {S : Type 0} (E : Edition S) (placed : Confined E) where
   record-bounds s r l n c (inr x) = omega (arith, line-bounds s l n c x)
 
   -- ---- a file
+  pub form-bounds : (f : List ℕ) (n r c : ℕ) → FormFault E f n r c → Bounds 2 10 81 n c × (1 ≤ r) × (r ≤ begun f + 1)
+  unfolding FormFault
+  form-bounds f n r c (inl x) = omega (arith, x .1, x .2, record-bounds _ r (lineAt f (x .0)) n c (x .3))
+  form-bounds f n r c (inr x) = omega (arith, x .1, x .2, x .3)
+
+  pub reference-bounds : (f : List ℕ) (n r c : ℕ) → ReferenceFault E f n r c → Bounds 11 12 80 n c × (1 ≤ r) × (r ≤ begun f)
+  unfolding ReferenceFault
+  reference-bounds f n r c x = omega (arith, x .1, x .2, check-bounds _ n c (placed .referring _ r _) (x .3))
+
   pub has-bounds : (f : List ℕ) (n r c : ℕ) → HasFault E f n r c → Bounds 2 12 81 n c × (1 ≤ r) × (r ≤ begun f + 1)
   unfolding HasFault
-  has-bounds f n r c (inl x) = omega (arith, x .1, x .2, record-bounds _ r (lineAt f (x .0)) n c (x .3))
-  has-bounds f n r c (inr (inl x)) = omega (arith, x .1, x .2, x .3)
-  has-bounds f n r c (inr (inr x)) = omega (arith, x .1, x .2, check-bounds _ n c (placed .referring _ r _) (x .3))
+  has-bounds f n r c = either (λ x. omega (arith, form-bounds f n r c x)) (λ x. omega (arith, reference-bounds f n r c x))
 
   -- a record 100,000 that has begun is itself a fault, and nothing behind it comes first
   hundred : (f : List ℕ) → 100_000 ≤ begun f → HasFault E f 2 100_000 1
-  unfolding HasFault RecordFaults
-  hundred f h = inl (99_999, omega arith, refl, inl (of> {m = 100_000} {n = 99_999} (omega arith), refl, refl))
+  unfolding HasFault FormFault RecordFaults
+  hundred f h = inl (inl (99_999, omega arith, refl, inl (of> {m = 100_000} {n = 99_999} (omega arith), refl, refl)))
 
-  first-most : Sound E → SoundRefs E → (f : List ℕ) (n r c : ℕ) → FirstOf (HasFault E f) (refuse n r c) → r ≤ 100_000
+  first-most : SoundRefs E → (f : List ℕ) (n r c : ℕ) → FirstOf (HasFault E f) (refuse n r c) → r ≤ 100_000
   unfolding FirstOf
-  first-most sound refs f n r c first =
+  first-most refs f n r c first =
       cases (100_000 ≤? begun f) (λ e. stopped (first .1 2 100_000 1 (hundred f (to≤ e)))) (λ e. omega (arith, no≤ e, has-bounds f n r c (first .0)))
     where
       second : phase 2 ≡ 1
@@ -141,7 +148,7 @@ module _ {S : Type 0} (E : Edition S) (placed : Confined E) where
 
       stopped : Precedes n r c 2 100_000 1 → r ≤ 100_000
       stopped = unfold Precedes in
-          either (λ y. absurd (omega (arith, second, has-later E sound refs f n r c (first .0)))) (λ y. either (λ z. omega arith) (λ z. omega (arith, z .0)) (y .1))
+          either (λ y. absurd (omega (arith, second, has-later E refs f n r c (first .0)))) (λ y. either (λ z. omega arith) (λ z. omega (arith, z .0)) (y .1))
 
 -- ---- Chapter 4
 placed : Confined chapter4
@@ -156,7 +163,19 @@ named R v n r c e h = (rw e at h) .0
 verdict-bounds : (f : List ℕ) (n r c : ℕ) → verdict chapter4 f ≡ refuse n r c → Bounds 2 12 81 n c × (r ≤ 100_000)
 verdict-bounds f n r c e =
     let first : FirstOf (HasFault chapter4 f) (verdict chapter4 f) = first-verdict chapter4 sound sound-refs f in
-    omega (arith, has-bounds chapter4 placed f n r c (named _ _ n r c e first), first-most chapter4 placed sound sound-refs f n r c (rw e at first))
+    omega (arith, has-bounds chapter4 placed f n r c (named _ _ n r c e first), first-most chapter4 placed sound-refs f n r c (rw e at first))
+
+-- 02, T-05, "the first answers 2 to 10 as in 01"
+pub form-refused : (f : List ℕ) (n r c : ℕ) → formVerdict chapter4 f ≡ refuse n r c → (2 ≤ n) × (n ≤ 10) × (r ≤ 100_000) × (c ≤ 81)
+form-refused f n r c e =
+    let whole : verdict chapter4 f ≡ refuse n r c = unfold verdict andThen in rw e in
+    omega (arith, form-bounds chapter4 placed f n r c (named _ _ n r c e (first-form chapter4 sound f)), verdict-bounds f n r c whole)
+
+-- "the second answers 1, then new number 14 (form not good, record and column 0), then 11 and 12 as before"
+pub reference-refused : (f : List ℕ) (n r c : ℕ) → isAccept (formVerdict chapter4 f) ≡ true → referenceVerdict chapter4 f ≡ refuse n r c → (11 ≤ n) × (n ≤ 12) × (r ≤ 100_000) × (c ≤ 81)
+reference-refused f n r c h e =
+    let whole : verdict chapter4 f ≡ refuse n r c = unfold verdict andThen in rw (is-accept (formVerdict chapter4 f) h) e in
+    omega (arith, reference-bounds chapter4 placed f n r c (named _ _ n r c e (first-reference chapter4 sound-refs f)), verdict-bounds f n r c whole)
 
 pub file-numbers : (f : List ℕ) (n r c : ℕ) → verdict chapter4 f ≡ refuse n r c → (2 ≤ n) × (n ≤ 12)
 file-numbers f n r c e = omega (arith, verdict-bounds f n r c e)
@@ -176,14 +195,16 @@ pub record Bounded (a : Answer) : Type 0 where
   pub place : a .place ≤ 100_000
   pub column : a .column ≤ 81
 
+bounded : (v : Result) (ms : List Meaning) → ((n r c : ℕ) → v ≡ refuse n r c → (n ≤ 12) × (r ≤ 100_000) × (c ≤ 81)) → Bounded (answer v ms)
+unfolding answer
+bounded accept ms h = record { number = omega arith; place = omega arith; column = omega arith }
+bounded (refuse n r c) ms h = let k = h n r c refl in record { number = k .0; place = k .1; column = k .2 }
+
 pub answer-bounded : (enough : Bool) (f : List ℕ) (ms : List Meaning) → Bounded (answer (outcome enough f) ms)
-answer-bounded enough f ms = by (outcome enough f) refl
-  where
-    by : (v : Result) → outcome enough f ≡ v → Bounded (answer v ms)
-    by accept e = unfold answer in record { number = omega arith; place = omega arith; column = omega arith }
-    by (refuse n r c) e = unfold answer in
-        let k = outcome-bounds enough f n r c e in
-        record { number = omega (arith, k); place = omega (arith, k); column = omega (arith, k) }
+answer-bounded enough f ms = bounded (outcome enough f) ms (λ n r c e. omega (arith, outcome-bounds enough f n r c e))
+
+pub form-bounded : (f : List ℕ) (ms : List Meaning) → Bounded (answer (formVerdict chapter4 f) ms)
+form-bounded f ms = bounded (formVerdict chapter4 f) ms (λ n r c e. omega (arith, form-refused f n r c e))
 
 -- 01, "0: accepted": no refusal has the number 0
 zero-accept : (v : Result) (ms : List Meaning) → ((n r c : ℕ) → v ≡ refuse n r c → 1 ≤ n) → answer v ms .number ≡ 0 → isAccept v ≡ true
@@ -191,9 +212,8 @@ unfolding answer isAccept
 zero-accept accept ms h e = refl
 zero-accept (refuse n r c) ms h e = absurd (omega (arith, h n r c refl))
 
-pub zero-walks : (f : List ℕ) (ms : List Meaning) → answer (walk chapter4 (chapter4 .start) 1 (lines f)) ms .number ≡ 0 → isAccept (walk chapter4 (chapter4 .start) 1 (lines f)) ≡ true
-zero-walks f ms =
-    zero-accept _ ms (λ n r c e. omega (arith, has-bounds chapter4 placed f n r c (to-fault chapter4 f n r c (inl (named _ _ n r c e (first-walk chapter4 sound (chapter4 .start) 1 (lines f)))))))
+pub zero-walks : (f : List ℕ) (ms : List Meaning) → answer (formVerdict chapter4 f) ms .number ≡ 0 → isAccept (formVerdict chapter4 f) ≡ true
+zero-walks f ms = zero-accept _ ms (λ n r c e. omega (arith, form-refused f n r c e))
 
 pub zero-accepts : (enough : Bool) (f : List ℕ) (ms : List Meaning) → answer (outcome enough f) ms .number ≡ 0 → isAccept (outcome enough f) ≡ true
 zero-accepts enough f ms = zero-accept (outcome enough f) ms (λ n r c e. omega (arith, outcome-bounds enough f n r c e))

@@ -17,12 +17,12 @@ use Rattle.rules.specs.Layouts.{layout}
 use Rattle.rules.specs.References.{ofFirst, hasWord, wordAt, counts}
 use Rattle.rules.specs.Kinds.{*AA*, *10*, *12*, *25*, *27*, *70*, *72*, *80*, *86*, *91*, *92*, *93*}
 use Rattle.rules.specs.Chapter4.{chapter4}
-use Rattle.rules.specs.Calls.{checkAnswer, values, unread, isRead, partWidth, fieldWidth, widthAsked, fieldOffset, fieldOf, writeVerdict, writeOutput}
+use Rattle.rules.specs.Calls.{fileAnswer, values, unread, isRead, partWidth, fieldWidth, widthAsked, fieldOffset, fieldOf, writeVerdict, writeOutput}
 use Rattle.rules.specs.Sheet.{tabbed, fileLine, kindNames, kindLines, listed, sheet}
 use Rattle.rules.proofs.Samples.{full, judged, full-accepted, counted, full-counts, styled, readFrom, bytesOf}
 use Rattle.rules.proofs.Published.{below-0}
 use Rattle.rules.proofs.Edges.{lined, sameVerdict}
-use Rattle.rules.proofs.Limits.{taken-check}
+use Rattle.rules.proofs.Limits.{taken-file}
 
 -- ---- rewrite: the sample file in house style
 unfoldable pub joined : List String → List ℕ
@@ -180,7 +180,7 @@ full-long : length (bytesOf full) ≡ 1_944
 unfolding bytesOf
 full-long = refl
 
-full-listed : (table : List ℕ) → sheet (bytesOf full) table ≡ listed 24 (checkAnswer (bytesOf full) table)
+full-listed : (table : List ℕ) → sheet (bytesOf full) table ≡ listed 24 (fileAnswer (bytesOf full) table)
 unfolding sheet _≤?_
 full-listed table = rw full-long
 
@@ -191,7 +191,7 @@ pub full-sheet : (table : List ℕ) → 12_000 ≤ length table
     ∷ "KIND\t70\t2\n" ∷ "KIND\t72\t2\n" ∷ "KIND\t80\t2\n" ∷ "KIND\t86\t2\n" ∷ "KIND\t91\t1\n" ∷ "KIND\t92\t1\n" ∷ "KIND\t93\t1\n" ∷ [])
 full-sheet table h =
     full-listed table
-    ∙ ap (listed 24) (taken-check (bytesOf full) table h full-taken .0 ∙ ap (λ ns. record { number = 0; place = 0; column = 0; counts = ns }) full-counted)
+    ∙ ap (listed 24) (taken-file (bytesOf full) table h full-taken .0 ∙ ap (λ ns. record { number = 0; place = 0; column = 0; counts = ns }) full-counted)
     ∙ (unfold listed fileLine kindNames kindLines tabbed numeral stripped judged in refl)
 
 -- ---- write

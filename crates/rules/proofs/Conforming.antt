@@ -12,7 +12,7 @@ use Rattle.rules.specs.Characters.{isPrintable, anyOf}
 use Rattle.rules.specs.Items.{valueOf, good}
 use Rattle.rules.specs.Fields.{expected, Field, Expect, anything, same, notBelow, above, check, isOk, columnsOf, read, isFormed, formed, meets, agreeing, numOf}
 use Rattle.rules.specs.Records.{Edition, sequence, bytes, codeAt, entries, meaning, formedLine, permitted}
-use Rattle.rules.specs.Files.{lineAt, begun, lines, meanings, passed, accepted, formedLines, orderly}
+use Rattle.rules.specs.Files.{isAccept, lineAt, begun, lines, meanings, passed, formVerdict, referenceVerdict, verdict, accepted, formedLines, orderly}
 use Rattle.rules.specs.Faults.{before}
 use Rattle.rules.specs.Kinds.{kindOf, known, *AA*, *25*, *27*, *70*, *72*, *80*, *86*}
 use Rattle.rules.specs.Layouts.{layout}
@@ -20,13 +20,13 @@ use Rattle.rules.specs.Order.{mayCome, placeNamed, placeAfter, ruled, or
 use Rattle.rules.specs.References.{numberAt}
 use Rattle.rules.specs.Chapter4.{Past, atStart, sameBytes, mayStand, expectation, chapter4}
 use Rattle.rules.specs.Members.{_∈_}
-use Rattle.rules.specs.Conforms.{kindAt, recordAt, Nearest, Place, Agreed, Stands, Conforms}
+use Rattle.rules.specs.Conforms.{kindAt, recordAt, Nearest, Place, Agreed, Stands, Formed, Conforms}
 use Rattle.rules.proofs.Truth.{under, tried, all-members, members-all, both, and, to≤, of≤, no≤, to≡, of≡, no≡, of≢, cases, either, below-or-equal}
 use Rattle.rules.proofs.SetLaws.{any-member, member-any, printed-in, printed-of}
 use Rattle.rules.proofs.SpellLaws.{spelled-iff, code-iff}
 use Rattle.rules.proofs.FieldLaws.{isOk-⨾, isOk-check}
 use Rattle.rules.proofs.RecordLaws.{bytes-length, agreeing-line}
-use Rattle.rules.proofs.FileLaws.{accepted-splits, accepted-parts, records, length-take-most, line-at}
+use Rattle.rules.proofs.FileLaws.{then-accept, walk-splits, records, length-take-most, line-at}
 use Rattle.rules.proofs.ReferenceLaws.{references-iff}
 use Rattle.rules.proofs.Chapter4Laws.{order-is-the-table}
 use Rattle.rules.proofs.Keeping.{kept-same, same-kept, past-kept, group-is, point-is, instrument-is, antenna-is, instrument-top, antenna-top, Placed, at-start, place-one, placed, job-is}
@@ -404,10 +404,10 @@ module _ (f : List ℕ) (each : (i : ℕ) → i < begun f → Stands f i) where
       (below-or-equal x n (omega arith))
 
 module _ (f : List ℕ) where
-  conforms : accepted chapter4 f ≡ true → Conforms f
+  has-form : isAccept (formVerdict chapter4 f) ≡ true → Formed f
   unfolding before meanings recordAt
-  conforms h =
-      let parts = accepted-parts chapter4 f h in
+  has-form h =
+      let parts = both (sym (walk-splits chapter4 atStart 1 (lines f)) ∙ h) in
       let form = formed-each chapter4 1 (lines f) (parts .0) in
       let order = orderly-each chapter4 atStart (lines f) (parts .1) in
       let good : (x : ℕ) → x < begun f → formedLine chapter4 (lineAt f x) ≡ true = λ x k. subst (λ l. formedLine chapter4 l ≡ true) (line-at f x k) (form x (rw (records f) k) .1) in
@@ -416,16 +416,15 @@ module _ (f : List ℕ) where
         few = few-of (begun f) (λ i k. form i (rw (records f) k) .0);
         each = stands f (begun f) (omega arith) good turn;
         ends = subst (Place f (begun f)) (to≡ (subst (λ s. s .place =? lastJob ≡ true) (whole-before f) (order .1))) (place-here f (begun f) (omega arith) good turn (begun f) (omega arith) .place);
-        references = references-iff (meanings chapter4 f) .0 (parts .2);
       }
     where
       few-of : (n : ℕ) → ((i : ℕ) → i < n → 1 + i ≤ 99_999) → n ≤ 99_999
       few-of zero g = omega arith
       few-of (suc n) g = omega (arith, g n (omega arith))
 
-  is-accepted : Conforms f → accepted chapter4 f ≡ true
+  is-formed : Formed f → isAccept (formVerdict chapter4 f) ≡ true
   unfolding before meanings recordAt
-  is-accepted c =
+  is-formed c =
       let turn = each-permitted f (c .each) (begun f) (omega arith) in
       let kinds : (x : ℕ) → x < begun f → kindAt f x ≤ 13 = λ x k. its-kind f x (c .each x k) in
       let last : before chapter4 f (begun f) .place ≡ lastJob = place-one f (begun f) _ _ (placed f (begun f) (omega arith) kinds turn (begun f) (omega arith) .place) (c .ends) in
@@ -435,9 +434,17 @@ module _ (f : List ℕ) where
       let order : (i : ℕ) → i < length (lines f) → permitted chapter4 (passed chapter4 atStart (map (meaning chapter4) (take i (lines f)))) (meaning chapter4 (getD (lines f) i [])) ≡ true
       = λ i k. let j : i < begun f = rw (← records f) k in
       subst (λ l. permitted chapter4 (passed chapter4 atStart (map (meaning chapter4) (take i (lines f)))) (meaning chapter4 l) ≡ true) (sym (line-at f i j)) (turn i j) in
-      accepted-splits chapter4 f
-      ∙ and (and (formed-all chapter4 1 (lines f) form) (orderly-all chapter4 atStart (lines f) order (subst (λ s. s .place =? lastJob ≡ true) (sym (whole-before f)) (of≡ last))))
-      (references-iff (meanings chapter4 f) .1 (c .references))
+      walk-splits chapter4 atStart 1 (lines f)
+      ∙ and (formed-all chapter4 1 (lines f) form) (orderly-all chapter4 atStart (lines f) order (subst (λ s. s .place =? lastJob ≡ true) (sym (whole-before f)) (of≡ last)))
 
+  -- 02, T-05: the form is accepted exactly when the file has the records, order and fields
+  pub form-formed : (isAccept (formVerdict chapter4 f) ≡ true) ↔ Formed f
+  form-formed = (has-form, is-formed)
+
+  -- and the file exactly when its references hold besides
   pub accepted-conforms : (accepted chapter4 f ≡ true) ↔ Conforms f
-  accepted-conforms = (conforms, is-accepted)
+  unfolding accepted verdict
+  accepted-conforms = (
+    (λ h. let parts = both (sym (then-accept (formVerdict chapter4 f) (referenceVerdict chapter4 f)) ∙ h) in record { form = has-form (parts .0); references = references-iff (meanings chapter4 f) .0 (parts .1) }),
+    (λ c. then-accept (formVerdict chapter4 f) (referenceVerdict chapter4 f) ∙ and (is-formed (c .form)) (references-iff (meanings chapter4 f) .1 (c .references))),
+  )

@@ -10,8 +10,8 @@ use lib.Seq.{take-length}
 use Rattle.rules.specs.Tests.{_&_, _≤?_, _=?_}
 use Rattle.rules.specs.Fields.{Verdict, ok, fault, _⨾_, check, Check, run}
 use Rattle.rules.specs.Records.{Meaning, Edition, judgeLine, meaning}
-use Rattle.rules.specs.Files.{Result, accept, refuse, isAccept, inRecord, andThen, begun, lines, meanings, passed, walk, refer, verdict}
-use Rattle.rules.specs.Faults.{Faults, FileFaults, Fails, Some, CheckFaults, phase, stage, Before, Precedes, First, FirstOf, LineFaults, RecordFaults, before, HasFault, CallFaults}
+use Rattle.rules.specs.Files.{Result, accept, refuse, isAccept, inRecord, andThen, begun, lines, meanings, passed, walk, refer, formVerdict, referenceVerdict, verdict}
+use Rattle.rules.specs.Faults.{Faults, FileFaults, Fails, Some, CheckFaults, phase, stage, Before, Precedes, First, FirstOf, LineFaults, RecordFaults, before, FormFault, ReferenceFault, HasFault, CallFaults, Malformed, ReferencesFaults}
 use Rattle.rules.proofs.Truth.{both, of≤, to≡, is-no, either}
 use Rattle.rules.proofs.RecordLaws.{Sound}
 use Rattle.rules.proofs.FileLaws.{records, line-at}
@@ -104,6 +104,17 @@ first-end : (b : Bool) (r : ℕ) → FirstOf (λ n k c. (b ≡ false) × (n ≡ 
 unfolding FirstOf Precedes
 first-end true r = λ n k c x. true≢false (x .0)
 first-end false r = ((refl, refl, refl, refl), λ n k c x. inr (ap phase (sym (x .1)), inr (sym (x .2), by-number 8 1 n c (x .1) (x .3))))
+
+-- fault 1 before all others, where there is not room enough
+first-room : (enough : Bool) (R : FileFaults) (v : Result) → FirstOf R v → ((n r c : ℕ) → R n r c → 1 ≤ phase n)
+    → FirstOf (λ n r c. ((enough ≡ false) × (n ≡ 1) × (r ≡ 0) × (c ≡ 0)) ⊎ R n r c) (cond enough v (refuse 1 0 0))
+first-room true R v h later = first-of-map R _ v (λ n r c x. inr x) (λ n r c. either (λ x. absurd (true≢false (x .0))) (λ x. x)) h
+first-room false R v h later = unfold FirstOf Precedes in (
+  inl (refl, refl, refl, refl),
+  λ n r c. either
+      (λ x. inr (ap phase (sym (x .1)), inr (sym (x .2), by-number 1 0 n c (x .1) (x .3))))
+      (λ x. inl (omega (arith, phase-1, later n r c x))),
+)
 
 pub late-phase : (ks : List Check) → allLate ks ≡ true → (n c : ℕ) → Some CheckFaults ks n c → phase n ≡ 2
 unfolding allLate Some
@@ -201,48 +212,91 @@ module _ {S : Type 0} (E : Edition S) where
   unreferred file r (l ∷ ls) n k c (suc i, a, b, x) = inr (unreferred file (r + 1) ls n k c (i, omega arith, omega arith, x))
 
   -- ---- of the whole file
-  pub to-fault : (f : List ℕ) (n r c : ℕ) → WalkFaults (E .start) 1 (lines f) n r c ⊎ ReferFaults (meanings E f) 1 (meanings E f) n r c → HasFault E f n r c
-  unfolding HasFault meanings before
-  to-fault f n r c (inl x) = unfold Stated in
+  to-form : (f : List ℕ) (n r c : ℕ) → WalkFaults (E .start) 1 (lines f) n r c → FormFault E f n r c
+  unfolding FormFault before
+  to-form f n r c x = unfold Stated in
       either
       (λ y. let h : y .0 < begun f = rw (← records f) (y .1) in inl (y .0, h, omega (arith, y .2), rw (line-at f (y .0) h) at (y .3)))
-      (λ y. inr (inl (rw (← records f, take-length (lines f)) (y .0), y .1, omega (arith, y .2, records f), y .3)))
+      (λ y. inr (rw (← records f, take-length (lines f)) (y .0), y .1, omega (arith, y .2, records f), y .3))
       (stated (E .start) 1 (lines f) n r c x)
-  to-fault f n r c (inr x) = unfold Referred in
+
+  of-form : (f : List ℕ) (n r c : ℕ) → FormFault E f n r c → WalkFaults (E .start) 1 (lines f) n r c
+  unfolding FormFault before
+  of-form f n r c (inl y) = unfold Stated in
+      unstated (E .start) 1 (lines f) n r c (inl (y .0, rw (records f) (y .1), omega (arith, y .2), rw (line-at f (y .0) (y .1)) (y .3)))
+  of-form f n r c (inr y) = unfold Stated in
+      unstated (E .start) 1 (lines f) n r c (inr (rw (← records f, take-length (lines f)) at (y .0), y .1, omega (arith, y .2, records f), y .3))
+
+  to-reference : (f : List ℕ) (n r c : ℕ) → ReferFaults (meanings E f) 1 (meanings E f) n r c → ReferenceFault E f n r c
+  unfolding ReferenceFault meanings
+  to-reference f n r c x = unfold Referred in
       let y = referred (map (meaning E) (lines f)) 1 (lines f) n r c x in
       let h : y .0 < begun f = rw (← records f) (y .1) in
-      inr (inr (y .0, h, omega (arith, y .2), rw (line-at f (y .0) h) at (y .3)))
+      (y .0, h, omega (arith, y .2), rw (line-at f (y .0) h) at (y .3))
 
-  of-fault : (f : List ℕ) (n r c : ℕ) → HasFault E f n r c → WalkFaults (E .start) 1 (lines f) n r c ⊎ ReferFaults (meanings E f) 1 (meanings E f) n r c
-  unfolding HasFault meanings before
-  of-fault f n r c (inl y) = unfold Stated in
-      inl (unstated (E .start) 1 (lines f) n r c (inl (y .0, rw (records f) (y .1), omega (arith, y .2), rw (line-at f (y .0) (y .1)) (y .3))))
-  of-fault f n r c (inr (inl y)) = unfold Stated in
-      inl (unstated (E .start) 1 (lines f) n r c (inr (rw (← records f, take-length (lines f)) at (y .0), y .1, omega (arith, y .2, records f), y .3)))
-  of-fault f n r c (inr (inr y)) = unfold Referred in
-      inr (unreferred (map (meaning E) (lines f)) 1 (lines f) n r c (y .0, rw (records f) (y .1), omega (arith, y .2), rw (line-at f (y .0) (y .1)) (y .3)))
+  of-reference : (f : List ℕ) (n r c : ℕ) → ReferenceFault E f n r c → ReferFaults (meanings E f) 1 (meanings E f) n r c
+  unfolding ReferenceFault meanings
+  of-reference f n r c y = unfold Referred in
+      unreferred (map (meaning E) (lines f)) 1 (lines f) n r c (y .0, rw (records f) (y .1), omega (arith, y .2), rw (line-at f (y .0) (y .1)) (y .3))
+
+  form-early : (f : List ℕ) (n r c : ℕ) → FormFault E f n r c → phase n ≡ 1
+  form-early f n r c x = walk-early (E .start) 1 (lines f) n r c (of-form f n r c x) .0
+
+  reference-late : SoundRefs E → (f : List ℕ) (n r c : ℕ) → ReferenceFault E f n r c → phase n ≡ 2
+  reference-late refs f n r c x = refer-late refs (meanings E f) 1 (meanings E f) n r c (of-reference f n r c x) .0
+
+  -- the form's verdict is the first fault of the form, the references' the first of theirs
+  pub first-form : Sound E → (f : List ℕ) → FirstOf (FormFault E f) (formVerdict E f)
+  first-form sound f = first-of-map (WalkFaults (E .start) 1 (lines f)) (FormFault E f) _ (to-form f) (of-form f) (first-walk sound (E .start) 1 (lines f))
+
+  pub first-reference : SoundRefs E → (f : List ℕ) → FirstOf (ReferenceFault E f) (referenceVerdict E f)
+  first-reference refs f = first-of-map (ReferFaults (meanings E f) 1 (meanings E f)) (ReferenceFault E f) _ (to-reference f) (of-reference f) (first-refer refs (meanings E f) 1 (meanings E f))
 
   -- the verdict is the first fault
   pub first-verdict : Sound E → SoundRefs E → (f : List ℕ) → FirstOf (HasFault E f) (verdict E f)
-  unfolding verdict
+  unfolding verdict HasFault
   first-verdict sound refs f =
-      first-of-map (λ n r c. WalkFaults (E .start) 1 (lines f) n r c ⊎ ReferFaults (meanings E f) 1 (meanings E f) n r c) (HasFault E f) _ (to-fault f) (of-fault f)
-      (first-andThen (WalkFaults (E .start) 1 (lines f)) (ReferFaults (meanings E f) 1 (meanings E f)) (walk E (E .start) 1 (lines f)) _
-      (first-walk sound (E .start) 1 (lines f)) (λ _. first-refer refs (meanings E f) 1 (meanings E f))
-      (λ n r c n′ r′ c′ x y. unfold Precedes in inl (omega (arith, walk-early (E .start) 1 (lines f) n r c x .0, refer-late refs (meanings E f) 1 (meanings E f) n′ r′ c′ y .0))))
+      first-andThen (FormFault E f) (ReferenceFault E f) (formVerdict E f) _ (first-form sound f) (λ _. first-reference refs f)
+      (λ n r c n′ r′ c′ x y. unfold Precedes in inl (omega (arith, form-early f n r c x, reference-late refs f n′ r′ c′ y)))
 
   -- with fault 1 before all others
-  pub has-later : Sound E → SoundRefs E → (f : List ℕ) (n r c : ℕ) → HasFault E f n r c → 1 ≤ phase n
-  has-later sound refs f n r c x =
-      either (λ y. omega (arith, walk-early (E .start) 1 (lines f) n r c y .0)) (λ y. omega (arith, refer-late refs (meanings E f) 1 (meanings E f) n r c y .0)) (of-fault f n r c x)
+  pub has-later : SoundRefs E → (f : List ℕ) (n r c : ℕ) → HasFault E f n r c → 1 ≤ phase n
+  unfolding HasFault
+  has-later refs f n r c x = either (λ y. omega (arith, form-early f n r c y)) (λ y. omega (arith, reference-late refs f n r c y)) x
 
   pub first-outcome : Sound E → SoundRefs E → (enough : Bool) (f : List ℕ) → FirstOf (CallFaults E enough f) (cond enough (verdict E f) (refuse 1 0 0))
   unfolding CallFaults
-  first-outcome sound refs true f =
-      first-of-map (HasFault E f) _ (verdict E f) (λ n r c x. inr x) (λ n r c. either (λ x. absurd (true≢false (x .0))) (λ x. x)) (first-verdict sound refs f)
-  first-outcome sound refs false f = unfold FirstOf Precedes in (
-    inl (refl, refl, refl, refl),
-    λ n r c. either
-        (λ x. inr (ap phase (sym (x .1)), inr (sym (x .2), by-number 1 0 n c (x .1) (x .3))))
-        (λ x. inl (omega (arith, phase-1, has-later sound refs f n r c x))),
+  first-outcome sound refs enough f = first-room enough (HasFault E f) (verdict E f) (first-verdict sound refs f) (has-later refs f)
+
+  -- ---- 02, T-05: 14 for any fault of the form, before the references'
+  Fourteen : List ℕ → FileFaults
+  Fourteen f n r c = Malformed E f × (n ≡ 14) × (r ≡ 0) × (c ≡ 0)
+
+  first-14 : (f : List ℕ) (v : Result) → FirstOf (FormFault E f) v → FirstOf (Fourteen f) (cond (isAccept v) accept (refuse 14 0 0))
+  unfolding FirstOf Fourteen Malformed isAccept Precedes
+  first-14 f accept h = λ n r c x. let (m, k, d, y) = x .0 in h m k d y
+  first-14 f (refuse n r c) h = (
+    ((n, r, c, h .0), refl, refl, refl),
+    λ n′ r′ c′ x. inr (ap phase (sym (x .1)), inr (sym (x .2), by-number 14 0 n′ c′ (x .1) (x .3))),
   )
+
+  pub first-references : Sound E → SoundRefs E → (enough : Bool) (f : List ℕ)
+      → FirstOf (ReferencesFaults E enough f) (cond enough (cond (isAccept (formVerdict E f)) (referenceVerdict E f) (refuse 14 0 0)) (refuse 1 0 0))
+  unfolding ReferencesFaults Fourteen
+  first-references sound refs enough f = first-room enough (λ n r c. Fourteen f n r c ⊎ ReferenceFault E f n r c) _ in-turn later
+    where
+      early-14 : (n r c : ℕ) → Fourteen f n r c → phase n ≡ 1
+      early-14 n r c = unfold Fourteen in λ x. ap phase (x .1) ∙ (unfold phase stage _=?_ _≤?_ in refl)
+
+      then-14 : (b : Bool) (v : Result) → cond b v (refuse 14 0 0) ≡ andThen (cond b accept (refuse 14 0 0)) v
+      then-14 true v = unfold andThen in refl
+      then-14 false v = unfold andThen in refl
+
+      in-turn : FirstOf (λ n r c. Fourteen f n r c ⊎ ReferenceFault E f n r c) (cond (isAccept (formVerdict E f)) (referenceVerdict E f) (refuse 14 0 0))
+      in-turn =
+          rw (then-14 (isAccept (formVerdict E f)) (referenceVerdict E f))
+          (first-andThen (Fourteen f) (ReferenceFault E f) _ _ (first-14 f (formVerdict E f) (first-form sound f)) (λ _. first-reference refs f)
+          (λ n r c n′ r′ c′ x y. unfold Precedes in inl (omega (arith, early-14 n r c x, reference-late refs f n′ r′ c′ y))))
+
+      later : (n r c : ℕ) → Fourteen f n r c ⊎ ReferenceFault E f n r c → 1 ≤ phase n
+      later n r c = either (λ x. omega (arith, early-14 n r c x)) (λ x. omega (arith, reference-late refs f n r c x))

@@ -28,7 +28,7 @@ unfolding isAccept inRecord isOk _&_
 inRecord-accept r ok q = refl
 inRecord-accept r (fault n c) q = refl
 
-then-accept : (p q : Result) → isAccept (andThen p q) ≡ isAccept p & isAccept q
+pub then-accept : (p q : Result) → isAccept (andThen p q) ≡ isAccept p & isAccept q
 unfolding isAccept andThen _&_
 then-accept accept q = refl
 then-accept (refuse n r c) q = refl

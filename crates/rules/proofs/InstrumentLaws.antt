@@ -15,13 +15,13 @@ use Rattle.rules.specs.Layouts.{tied, instrument, receiver, layouts, lay
 use Rattle.rules.specs.Forms.{Code}
 use Rattle.rules.specs.Records.{Meaning, codeAt, entries, meaning}
 use Rattle.rules.specs.Files.{refuse, lineAt, begun, lines, meanings}
-use Rattle.rules.specs.Faults.{Some, FieldFaults, stage, phase, FirstOf, LineFaults, RecordFaults, before, HasFault, CallFaults}
+use Rattle.rules.specs.Faults.{Some, FieldFaults, stage, phase, FirstOf, LineFaults, RecordFaults, before, FormFault, ReferenceFault, HasFault, CallFaults}
 use Rattle.rules.specs.Calls.{answer, outcome}
 use Rattle.rules.specs.Kinds.{kindOf, *AA*, *70*}
 use Rattle.rules.specs.Order.{mayCome, placeNamed, lastJob}
 use Rattle.rules.specs.References.{asked, numberAt, blankRecord, Defines}
 use Rattle.rules.specs.Chapter4.{expectation, chapter4}
-use Rattle.rules.specs.Conforms.{kindAt, recordAt, Falls, Place, Conforms}
+use Rattle.rules.specs.Conforms.{kindAt, recordAt, Falls, Place, Formed}
 use Rattle.rules.proofs.Truth.{all-members, map-at, to≤, of≤, no≤, of≢, is-no, cases, either, under, tried, below-or-equal}
 use Rattle.rules.proofs.FileLaws.{records, line-at}
 use Rattle.rules.proofs.FileFaults.{late-phase, first-outcome}
@@ -64,7 +64,7 @@ kind-back : (k : ℕ) → rank k ≡ *70* → k ≡ *70*
 unfolding rank
 kind-back k h = cases (k =? *AA*) (λ e. absurd (let z : 14 ≡ 7 = rw e at h in omega arith)) (λ e. rw e at h)
 
-module _ (f : List ℕ) (c : Conforms f) where
+module _ (f : List ℕ) (c : Formed f) where
   kind-known : (x : ℕ) → x < begun f → kindAt f x ≤ 13
   unfolding Code
   kind-known x h = by (c .each x h .coded)
@@ -197,14 +197,14 @@ module _ (f : List ℕ) (i c : ℕ) where
 
   -- a 10 of record i + 1 is one of its fields'
   in-fields : HasFault chapter4 f 10 (i + 1) c ↔ ((i < begun f) × Tens (layout (codeAt (lineAt f i))))
-  unfolding HasFault RecordFaults LineFaults Tens expected-here entries
-  in-fields = (by, (λ x. inl (i, x .0, refl, inr (inr (inr (inr (inr (x .1))))))))
+  unfolding HasFault FormFault ReferenceFault RecordFaults LineFaults Tens expected-here entries
+  in-fields = (by, (λ x. inl (inl (i, x .0, refl, inr (inr (inr (inr (inr (x .1)))))))))
     where
       by : HasFault chapter4 f 10 (i + 1) c → (i < begun f) × Tens (layout (codeAt (lineAt f i)))
-      by (inl (x, l, e, inl y)) = absurd (omega (arith, y .1))
-      by (inl (x, l, e, inr y)) = (omega arith, in-line (subst (λ z. LineFaults chapter4 (before chapter4 f z) (lineAt f z) 10 c) (omega arith) y))
-      by (inr (inl x)) = absurd (omega (arith, x .1))
-      by (inr (inr x)) = absurd (omega (arith, late-phase _ (sound-refs .late _ _ _) 10 c (x .3), phase-10))
+      by (inl (inl (x, l, e, inl y))) = absurd (omega (arith, y .1))
+      by (inl (inl (x, l, e, inr y))) = (omega arith, in-line (subst (λ z. LineFaults chapter4 (before chapter4 f z) (lineAt f z) 10 c) (omega arith) y))
+      by (inl (inr x)) = absurd (omega (arith, x .1))
+      by (inr x) = absurd (omega (arith, late-phase _ (sound-refs .late _ _ _) 10 c (x .3), phase-10))
 
   module _ (k : kindAt f i ≡ *70*) where
     expects : expected-here ≡ notBelow (before chapter4 f i .instrument)
@@ -249,12 +249,12 @@ module _ (f : List ℕ) (i c : ℕ) where
         from x =
             in-fields .1 (x .0, subst Tens (sym (receiver-of (codeAt (lineAt f i)) (unfold kindAt in k))) (in-number expected-here (entries chapter4 (lineAt f i)) (lineAt f i) c .1 (x .1, x .2, not-met (x .0) .1 (x .3))))
 
--- ---- what check and rewrite answer
+-- ---- what the calls answer
 from-record-1 : (f : List ℕ) (r c : ℕ) → HasFault chapter4 f 10 r c → 1 ≤ r
-unfolding HasFault
-from-record-1 f r c (inl x) = omega (arith, x .2)
-from-record-1 f r c (inr (inl x)) = omega (arith, x .2)
-from-record-1 f r c (inr (inr x)) = omega (arith, x .2)
+unfolding HasFault FormFault ReferenceFault
+from-record-1 f r c (inl (inl x)) = omega (arith, x .2)
+from-record-1 f r c (inl (inr x)) = omega (arith, x .2)
+from-record-1 f r c (inr x) = omega (arith, x .2)
 
 refused-falls : (f : List ℕ) (r c : ℕ) → HasFault chapter4 f 10 r c → kindAt f (r - 1) ≡ *70* → (c ≡ 11) × Falls f (r - 1)
 refused-falls f r c x k =

@@ -12,7 +12,7 @@ use Rattle.rules.specs.Records.{Meaning, readLine, judgeGiven, lineOf}
 use Rattle.rules.specs.Files.{accept, refuse, isAccept, lineAt, begun, meanings, walk, verdict, rewritten}
 use Rattle.rules.specs.References.{words, counts}
 use Rattle.rules.specs.Chapter4.{atStart, chapter4}
-use Rattle.rules.specs.Calls.{Answer, outcome, bigTable, bigOutput, answer, tableLeft, outputLeft, checkAnswer, checkTable, rewriteRoom, rewriteAnswer, rewriteTable, rewriteOutput, unread, readAs, readOf, isRead, widthAsked, fieldOffset, fieldOf, writeVerdict, writeOutput}
+use Rattle.rules.specs.Calls.{Answer, outcome, bigTable, bigOutput, answer, tableLeft, outputLeft, fileAnswer, referencesTable, rewriteRoom, rewriteAnswer, rewriteTable, rewriteOutput, unread, readAs, readOf, isRead, widthAsked, fieldOffset, fieldOf, writeVerdict, writeOutput}
 use Rattle.rules.specs.Sheet.{tabbed, fileLine, listed, sheet}
 use Rattle.rules.specs.Digits.{stripped, numeral}
 use Rattle.rules.proofs.Truth.{and, of≤, of>, and-false}
@@ -23,7 +23,7 @@ use Rattle.rules.proofs.Edges.{lined}
 unfoldable pub refusal : ℕ → ℕ → ℕ → Answer
 refusal n r c = record { number = n; place = r; column = c; counts = 0 ∷ 0 ∷ 0 ∷ 0 ∷ 0 ∷ 0 ∷ 0 ∷ 0 ∷ 0 ∷ 0 ∷ 0 ∷ 0 ∷ 0 ∷ 0 ∷ [] }
 
--- ---- check
+-- ---- form and references together
 module _ (f table : List ℕ) where
   pub enough-table : 12_000 ≤ length table → bigTable table ≡ true
   unfolding bigTable
@@ -34,22 +34,22 @@ module _ (f table : List ℕ) where
   low-table h = of> (omega (arith, h))
 
   -- 1: a table below 12,000 words; nothing is touched
-  pub short-table : length table < 12_000 → (checkAnswer f table ≡ refusal 1 0 0) × (checkTable f table ≡ table)
-  unfolding checkAnswer checkTable outcome tableLeft answer refusal
+  pub short-table : length table < 12_000 → (fileAnswer f table ≡ refusal 1 0 0) × (referencesTable f table ≡ table)
+  unfolding fileAnswer referencesTable outcome tableLeft answer refusal
   short-table h = (rw (low-table h), rw (low-table h))
 
   -- any other refusal: its number, record and column, counts all 0, the first 12,000 words 0, later words as they were
-  pub refused-check : (n r c : ℕ) → 12_000 ≤ length table → verdict chapter4 f ≡ refuse n r c
-      → (checkAnswer f table ≡ refusal n r c) × (checkTable f table ≡ replicate 12_000 0 ++ drop 12_000 table)
-  unfolding checkAnswer checkTable outcome tableLeft answer refusal isAccept
-  refused-check n r c h e = (rw (enough-table h, e), rw (enough-table h, e))
+  pub refused-file : (n r c : ℕ) → 12_000 ≤ length table → verdict chapter4 f ≡ refuse n r c
+      → (fileAnswer f table ≡ refusal n r c) × (referencesTable f table ≡ replicate 12_000 0 ++ drop 12_000 table)
+  unfolding fileAnswer referencesTable outcome tableLeft answer refusal isAccept
+  refused-file n r c h e = (rw (enough-table h, e), rw (enough-table h, e))
 
   -- acceptance: 0, and record and column 0
-  pub taken-check : 12_000 ≤ length table → verdict chapter4 f ≡ accept
-      → (checkAnswer f table ≡ record { number = 0; place = 0; column = 0; counts = counts (meanings chapter4 f) })
-      × (checkTable f table ≡ words (meanings chapter4 f) ++ drop 12_000 table)
-  unfolding checkAnswer checkTable outcome tableLeft answer isAccept
-  taken-check h e = (rw (enough-table h, e), rw (enough-table h, e))
+  pub taken-file : 12_000 ≤ length table → verdict chapter4 f ≡ accept
+      → (fileAnswer f table ≡ record { number = 0; place = 0; column = 0; counts = counts (meanings chapter4 f) })
+      × (referencesTable f table ≡ words (meanings chapter4 f) ++ drop 12_000 table)
+  unfolding fileAnswer referencesTable outcome tableLeft answer isAccept
+  taken-file h e = (rw (enough-table h, e), rw (enough-table h, e))
 
 -- ---- rewrite
 pub record Untouched (f table out : List ℕ) : Type 0 where
@@ -81,17 +81,17 @@ module _ (f table out : List ℕ) where
   unfolding rewriteRoom
   room h k = and (enough-table f table h) (enough-output k)
 
-  -- any other refusal: as check has it, and the output as it was
+  -- any other refusal: as both have it, and the output as it was
   pub refused-rewrite : (n r c : ℕ) → 12_000 ≤ length table → length f ≤ length out → verdict chapter4 f ≡ refuse n r c
       → (rewriteAnswer f table out ≡ refusal n r c) × (rewriteTable f table out ≡ replicate 12_000 0 ++ drop 12_000 table) × (rewriteOutput f table out ≡ out)
   unfolding rewriteAnswer rewriteTable rewriteOutput outcome tableLeft outputLeft answer refusal isAccept
   refused-rewrite n r c h k e = (rw (room h k, e), rw (room h k, e), rw (room h k, e))
 
-  -- acceptance: as check has it, and the rewritten file from the first byte on
+  -- acceptance: as both have it, and the rewritten file from the first byte on
   pub taken-rewrite : 12_000 ≤ length table → length f ≤ length out → verdict chapter4 f ≡ accept
-      → (rewriteAnswer f table out ≡ checkAnswer f table) × (rewriteTable f table out ≡ checkTable f table)
+      → (rewriteAnswer f table out ≡ fileAnswer f table) × (rewriteTable f table out ≡ referencesTable f table)
       × (rewriteOutput f table out ≡ rewritten chapter4 f ++ drop (length f) out)
-  unfolding rewriteAnswer rewriteTable rewriteOutput checkAnswer checkTable outcome tableLeft outputLeft isAccept
+  unfolding rewriteAnswer rewriteTable rewriteOutput fileAnswer referencesTable outcome tableLeft outputLeft isAccept
   taken-rewrite h k e = (rw (room h k, enough-table f table h, e), rw (room h k, enough-table f table h, e), rw (room h k, e))
 
 -- ---- read: 13 for record 0, above 99,999, or past the last, with the record number asked for; any other record is judged
@@ -141,7 +141,7 @@ module _ (k : ℕ) (q : Value) (m : Meaning) where
 
 -- ---- the deposit sheet: up to 64,800 bytes; more gives the line of refusal 1, with 0 blocks
 module _ (input table : List ℕ) where
-  pub sheet-64800 : length input ≡ 64_800 → sheet input table ≡ listed 800 (checkAnswer input table)
+  pub sheet-64800 : length input ≡ 64_800 → sheet input table ≡ listed 800 (fileAnswer input table)
   unfolding sheet _≤?_
   sheet-64800 e = rw e
 

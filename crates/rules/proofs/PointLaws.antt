@@ -15,7 +15,7 @@ use Rattle.rules.specs.Layouts.{at}
 use Rattle.rules.specs.Records.{Meaning, Edition, sequence, codeAt, entries, meaning, judgeLine, readLine, told, judgeGiven}
 use Rattle.rules.specs.Beginnings.{NamesIn, Points}
 use Rattle.rules.specs.Files.{Result, accept, refuse, lineAt, begun, meanings, verdict}
-use Rattle.rules.specs.Faults.{Faults, _∪_, Fails, Some, ByteFaults, FieldFaults, stage, phase, Before, Precedes, First, FirstOf, LineFaults, ReadFaults, GivenFaults, RecordFaults, HasFault, before}
+use Rattle.rules.specs.Faults.{Faults, _∪_, Fails, Some, ByteFaults, FieldFaults, stage, phase, Before, Precedes, First, FirstOf, LineFaults, ReadFaults, GivenFaults, RecordFaults, FormFault, ReferenceFault, HasFault, before}
 use Rattle.rules.specs.Calls.{answer, outcome, unread, readAs, readOf}
 use Rattle.rules.specs.Chapter4.{chapter4}
 use Rattle.rules.proofs.Truth.{both, to≤, no≤, to≡, cases, either}
@@ -135,17 +135,17 @@ module _ {S : Type 0} (E : Edition S) (is-sound : Sound E) where
   -- ---- a file
   module _ (refs : SoundRefs E) (f : List ℕ) (r c : ℕ) (least : (n k d : ℕ) → HasFault E f n k d → Precedes 9 r c n k d) where
     nothing-before : (i : ℕ) → i < begun f → r ≡ i + 1 → (n d : ℕ) → stage n ≤ 3 → LineFaults E (before E f i) (lineAt f i) n d → ⊥
-    unfolding HasFault RecordFaults
+    unfolding HasFault FormFault RecordFaults
     nothing-before i h e n d k x =
-        either (none-before c n d k) (λ g. g (early n (omega arith))) (none-precedes r c n d (least n r d (inl (i, h, e, inr x))))
+        either (none-before c n d k) (λ g. g (early n (omega arith))) (none-precedes r c n d (least n r d (inl (inl (i, h, e, inr x)))))
 
     has-named : HasFault E f 9 r c → Points E (lineAt f (r - 1)) c
-    unfolding HasFault RecordFaults
-    has-named (inl (i, h, e, inl x)) = absurd (omega (arith, x .1))
-    has-named (inl (i, h, e, inr x)) =
+    unfolding HasFault FormFault ReferenceFault RecordFaults
+    has-named (inl (inl (i, h, e, inl x))) = absurd (omega (arith, x .1))
+    has-named (inl (inl (i, h, e, inr x))) =
         let same : r - 1 ≡ i = omega arith in rw same (line-named (before E f i) (lineAt f i) c x (nothing-before i h e))
-    has-named (inr (inl x)) = absurd (omega (arith, x .1))
-    has-named (inr (inr x)) = absurd (omega (arith, late-phase (E .refs (meanings E f) r (meaning E (lineAt f (x .0)))) (refs .late _ r _) 9 c (x .3), early 9 (omega (arith, stage-9))))
+    has-named (inl (inr x)) = absurd (omega (arith, x .1))
+    has-named (inr x) = absurd (omega (arith, late-phase (E .refs (meanings E f) r (meaning E (lineAt f (x .0)))) (refs .late _ r _) 9 c (x .3), early 9 (omega (arith, stage-9))))
 
   pub file-points : SoundRefs E → (f : List ℕ) (r c : ℕ) → verdict E f ≡ refuse 9 r c → Points E (lineAt f (r - 1)) c
   unfolding FirstOf
@@ -173,7 +173,7 @@ unfolding answer
 answer-refuses k accept ms e = absurd (omega arith)
 answer-refuses k (refuse n r c) ms e = ap (λ m. refuse m r c) e
 
--- check and rewrite
+-- form and references together, and rewrite
 pub answer-points : (enough : Bool) (f : List ℕ) (ms : List Meaning) → answer (outcome enough f) ms .number ≡ 9
     → Points chapter4 (lineAt f (answer (outcome enough f) ms .place - 1)) (answer (outcome enough f) ms .column)
 answer-points enough f ms e = by enough (answer-refuses 8 (outcome enough f) ms e)

@@ -60,10 +60,10 @@ module _ {S : Type 0} (E : Edition S) where
   unfolding readLine formedLine numbered
   readLine-splits l = simp (isOk-⨾, isOk-check, judge-splits) (rw (agreeing-line anything l) (arrange-alone _ _ _ _ _))
 
-  -- what check lets pass can be read
-  pub checked-reads : (s : S) (l : List ℕ) → isOk (judgeLine E s l) ≡ true → isOk (readLine E l) ≡ true
+  -- what may stand in a file can be read
+  pub judged-reads : (s : S) (l : List ℕ) → isOk (judgeLine E s l) ≡ true → isOk (readLine E l) ≡ true
   unfolding permitted
-  checked-reads s l h =
+  judged-reads s l h =
       let k : formedLine E l & permitted E s (meaning E l) ≡ true = sym (judgeLine-splits s l) ∙ h in
       readLine-splits l ∙ and (both k .0) (agreeing-alone (E .expects s (meaning E l .code)) (told E (meaning E l)) (both (both k .1) .1))
 

@@ -13,13 +13,13 @@ use Rattle.rules.specs.Digits.{val, put, stripped, numeral}
 use Rattle.rules.specs.Items.{Value, missing, num, numForm, heightForm, minus, signed, passes, angleOf, dms, dmsForm, columns, top, low, plus, minusOf, angleValue, isMonth, isMedia, onGap, onNumber, onText, onLabel, width, shape, valueOf, fits, render, good, setIn, least, ends, goesOn, begins, firstBad, spot}
 use Rattle.rules.specs.Fields.{ok, check, _⨾_, isOk, run, columnsOf, read, given, entriesOf, values, valueAt, numOf, isMissing, sameTruth, meets, agreesWith, agrees, judgeEach, judge, renders}
 use Rattle.rules.specs.Records.{sequence, bytes, codeAt, entries, numbered, judgeLine, readLine, meaning, told, lineOf, style}
-use Rattle.rules.specs.Files.{Result, accept, refuse, inRecord, andThen, lineAt, begun, linesFrom, lines, join, meanings, passed, walk, refer, verdict, styles, houseStyle, rewritten}
+use Rattle.rules.specs.Files.{Result, accept, refuse, isAccept, inRecord, andThen, lineAt, begun, linesFrom, lines, join, meanings, passed, walk, refer, verdict, styles, houseStyle, rewritten}
 use Rattle.rules.specs.Kinds.{dataCodes, kindFrom, starred, kindBetween, kindOf, known, *70*, *72*, *80*}
 use Rattle.rules.specs.Layouts.{layouts, layout}
 use Rattle.rules.specs.Order.{order, goto}
 use Rattle.rules.specs.References.{isA, numberAt, defines, definerFrom, definer, asked, refChecks, tabulate, mark, tally, counts}
 use Rattle.rules.specs.Chapter4.{Past, atStart, sameBytes, mayStand, expectation, latest, after, chapter4}
-use Rattle.rules.specs.Calls.{answer, outcome, bigTable, checkAnswer, Reading, unread, readAs, readOf}
+use Rattle.rules.specs.Calls.{Answer, answer, outcome, bigTable, formAnswer, referencesOutcome, fileAnswer, Reading, unread, readAs, readOf}
 use Rattle.rules.proofs.Truth.{of≤, all-append, all-replicate}
 use Rattle.rules.proofs.FileLaws.{isLine, lines-join}
 use Rattle.rules.specs.Sheet.{tabbed, fileLine, listed, sheet}
@@ -235,6 +235,50 @@ pub malformed-first : judged malformedLater ≡ refuse 10 20 11
 unfolding judged
 malformed-first = refl
 
+-- ---- 02, T-05: form and references by themselves. A station that no *80* defines and a second *80* are not the form's; any fault of the form
+-- is 14 of the references, with record and column 0
+abbrev pub strangers : List String
+strangers = r-job ∷ r-title ∷ r-more ∷ r-project ∷ r-occupy1 ∷ r-comment ∷ r-begin1 ∷ r-end1 ∷ r-stranger ∷ r-strange3 ∷ r-strange3 ∷ r-strange3 ∷ r-receiver1 ∷ r-receiver2 ∷ r-aerial1 ∷ r-aerial2 ∷ r-point1 ∷ r-heights1 ∷ r-point2 ∷ r-heights2 ∷ r-network ∷ r-local ∷ r-factor ∷ r-last ∷ []
+
+abbrev pub repeated : List String
+repeated = r-job ∷ r-title ∷ r-more ∷ r-project ∷ r-occupy1 ∷ r-comment ∷ r-begin1 ∷ r-end1 ∷ r-occupy2 ∷ r-begin2 ∷ r-begin2 ∷ r-begin2 ∷ r-receiver1 ∷ r-receiver2 ∷ r-aerial1 ∷ r-aerial2 ∷ r-point1 ∷ r-heights1 ∷ r-point2 ∷ r-heights2 ∷ r-again ∷ r-again86 ∷ r-network ∷ r-local ∷ r-factor ∷ r-last ∷ []
+
+unfoldable pub formOf : List String → Answer
+unfolding judged formAnswer answer counts tabulate tally
+formOf ls = formAnswer (bytesOf ls)
+
+unfoldable pub referencesOf : List String → Result
+unfolding judged referencesOutcome isAccept
+referencesOf ls = referencesOutcome true (bytesOf ls)
+
+pub forms : (formOf full .number ∷ formOf strangers .number ∷ formOf repeated .number ∷ formOf malformedLater .number ∷ formOf [] .number ∷ []) ≡ 0 ∷ 0 ∷ 0 ∷ 10 ∷ 8 ∷ []
+unfolding formOf
+forms = refl
+
+pub strangers-counts : formOf strangers .counts ≡ 2 ∷ 1 ∷ 1 ∷ 1 ∷ 2 ∷ 1 ∷ 5 ∷ 2 ∷ 2 ∷ 2 ∷ 2 ∷ 1 ∷ 1 ∷ 1 ∷ []
+unfolding formOf
+strangers-counts = refl
+
+pub references :
+    (referencesOf full ∷ referencesOf strangers ∷ referencesOf repeated ∷ referencesOf malformedLater ∷ referencesOf [] ∷ [])
+    ≡ (accept ∷ refuse 12 9 11 ∷ refuse 11 21 11 ∷ refuse 14 0 0 ∷ refuse 14 0 0 ∷ [])
+unfolding referencesOf
+references = refl
+
+-- 3, 4, 5, 6, 7, 9 and 10 of the form
+pub fourteens :
+    (referencesOf ("000010*A1*" ∷ [])
+    ∷ referencesOf (r-tabbed ∷ [])
+    ∷ referencesOf ("000010*A1*HZTLOBS                                                               \r\n" ∷ [])
+    ∷ referencesOf (r-unknown ∷ [])
+    ∷ referencesOf (r-title ∷ [])
+    ∷ referencesOf (r-badnumber ∷ [])
+    ∷ referencesOf (r-job ∷ r-title ∷ r-backward ∷ [])
+    ∷ [])
+    ≡ replicate 7 (refuse 14 0 0)
+unfolding referencesOf
+fourteens = refl
+
 -- ---- counts and definers
 unfoldable pub counted : List String → List ℕ
 unfolding judged tabulate tally counts
@@ -333,12 +377,12 @@ halfMetre = refl
 
 -- ---- 01's two sheets
 pub empty-sheet : (table : List ℕ) → bigTable table ≡ true → sheet [] table ≡ bytesOf ("FILE\t0\t8\t1\t1\n" ∷ [])
-unfolding sheet listed fileLine tabbed numeral stripped checkAnswer outcome answer judged
+unfolding sheet listed fileLine tabbed numeral stripped fileAnswer outcome answer judged
 empty-sheet table h = rw h
 
 pub one-line-sheet : (table : List ℕ) → bigTable table ≡ true
     → sheet (bytesOf ("000010*A1*                                                                      \n" ∷ [])) table ≡ bytesOf ("FILE\t1\t8\t2\t1\n" ∷ [])
-unfolding sheet listed fileLine tabbed numeral stripped checkAnswer outcome answer judged
+unfolding sheet listed fileLine tabbed numeral stripped fileAnswer outcome answer judged
 one-line-sheet table h = rw h
 
 -- ---- 2: a hundred thousand records, of which all but the last are good. After a *25* any number of comments may come, and none changes what went before

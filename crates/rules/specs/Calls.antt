@@ -7,12 +7,12 @@ use Rattle.rules.specs.Tests.{_&_, _≤?_, _=?_, within}
 use Rattle.rules.specs.Items.{Value, valueOf, parts}
 use Rattle.rules.specs.Fields.{Field, Verdict, ok, fault, _⨾_, check, isOk}
 use Rattle.rules.specs.Records.{Meaning, sequence, codeAt, readLine, meaning, judgeGiven, lineOf}
-use Rattle.rules.specs.Files.{Result, accept, refuse, isAccept, lineAt, begun, meanings, verdict, rewritten}
+use Rattle.rules.specs.Files.{Result, accept, refuse, isAccept, lineAt, begun, meanings, formVerdict, referenceVerdict, verdict, rewritten}
 use Rattle.rules.specs.Layouts.{layout}
 use Rattle.rules.specs.References.{words, counts}
 use Rattle.rules.specs.Chapter4.{chapter4}
 
--- ---- check and rewrite
+-- ---- form, references and rewrite
 -- fault 1 goes by lengths alone
 unfoldable pub outcome : Bool → List ℕ → Result
 outcome enough f = cond enough (verdict chapter4 f) (refuse 1 0 0)
@@ -43,11 +43,23 @@ tableLeft enough f table =
 unfoldable pub outputLeft : Bool → List ℕ → List ℕ → List ℕ
 outputLeft enough f out = cond (isAccept (outcome enough f)) (rewritten chapter4 f ++ drop (length f) out) out
 
-unfoldable pub checkAnswer : List ℕ → List ℕ → Answer
-checkAnswer f table = answer (outcome (bigTable table) f) (meanings chapter4 f)
+-- 02, T-05: "one for form and order, with the counts and needing no table"
+unfoldable pub formAnswer : List ℕ → Answer
+formAnswer f = answer (formVerdict chapter4 f) (meanings chapter4 f)
 
-unfoldable pub checkTable : List ℕ → List ℕ → List ℕ
-checkTable f table = tableLeft (bigTable table) f table
+-- "and one for references and the table": 1, then 14 where form is not good, then 11 and 12
+unfoldable pub referencesOutcome : Bool → List ℕ → Result
+referencesOutcome enough f = cond enough (cond (isAccept (formVerdict chapter4 f)) (referenceVerdict chapter4 f) (refuse 14 0 0)) (refuse 1 0 0)
+
+unfoldable pub referencesAnswer : List ℕ → List ℕ → Result
+referencesAnswer f table = referencesOutcome (bigTable table) f
+
+unfoldable pub referencesTable : List ℕ → List ℕ → List ℕ
+referencesTable f table = tableLeft (bigTable table) f table
+
+-- the first fault in the paper's order, 1 first, as both calls together tell it
+unfoldable pub fileAnswer : List ℕ → List ℕ → Answer
+fileAnswer f table = answer (outcome (bigTable table) f) (meanings chapter4 f)
 
 unfoldable pub rewriteRoom : List ℕ → List ℕ → List ℕ → Bool
 rewriteRoom f table out = bigTable table & bigOutput f out

@@ -95,8 +95,12 @@ pub record Stands (f : List ℕ) (i : ℕ) : Type 0 where
   -- "*72* by antenna number", rising strictly
   pub rises : kindAt f i ≡ *72* → (j : ℕ) → j < i → kindAt f j ≡ *72* → numberAt 11 (recordAt f j) < numberAt 11 (recordAt f i)
 
-pub record Conforms (f : List ℕ) : Type 0 where
+-- 02, T-05, "form and order": the records, their order and their fields
+pub record Formed (f : List ℕ) : Type 0 where
   pub few : begun f ≤ 99_999
   pub each : (i : ℕ) → i < begun f → Stands f i
   pub ends : Place f (begun f) lastJob  -- "last job code: nothing"
+
+pub record Conforms (f : List ℕ) : Type 0 where
+  pub form : Formed f
   pub references : Referred (meanings chapter4 f)

@@ -46,9 +46,9 @@ FieldFaults e xs x n c = Fails (x .formed) 9 (x .column + x .spot) n c ⊎ ((x .
 abbrev pub CheckFaults : Check → Faults
 CheckFaults k = Fails (k .test) (k .number) (k .column)
 
--- ---- the order: within a record 2, then 3 4 5, 6, 7, then 9 and 10; 8 stands alone, where the next record would be
+-- ---- the order: within a record 2, then 3 4 5, 6, 7, then 9 and 10; 8 stands alone, where the next record would be, and 14 for all of these
 unfoldable pub stage : ℕ → ℕ
-stage n = getD (9 ∷ 9 ∷ 0 ∷ 1 ∷ 1 ∷ 1 ∷ 2 ∷ 3 ∷ 0 ∷ 4 ∷ 4 ∷ 5 ∷ 5 ∷ []) n 9
+stage n = getD (9 ∷ 9 ∷ 0 ∷ 1 ∷ 1 ∷ 1 ∷ 2 ∷ 3 ∷ 0 ∷ 4 ∷ 4 ∷ 5 ∷ 5 ∷ 9 ∷ 0 ∷ []) n 9
 
 -- 1 first; then record by record; only a file with none of these is judged for 11 and 12
 unfoldable pub phase : ℕ → ℕ
@@ -105,12 +105,28 @@ module _ {S : Type 0} (E : Edition S) where
   before f i = passed E (E .start) (map (meaning E) (take i (lines f)))
 
   -- ---- all faults of a file, record by record
-  unfoldable pub HasFault : List ℕ → FileFaults
-  HasFault f n r c =
+  -- of its form and order: 2 to 10
+  unfoldable pub FormFault : List ℕ → FileFaults
+  FormFault f n r c =
       ((i : ℕ) × (i < begun f) × (r ≡ i + 1) × RecordFaults (before f i) r (lineAt f i) n c)
-      ⊎ (((E .ends (before f (begun f)) ≡ false) × (n ≡ 8) × (r ≡ begun f + 1) × (c ≡ 1))
-      ⊎ ((i : ℕ) × (i < begun f) × (r ≡ i + 1) × Some CheckFaults (E .refs (meanings E f) r (meaning E (lineAt f i))) n c))
+      ⊎ ((E .ends (before f (begun f)) ≡ false) × (n ≡ 8) × (r ≡ begun f + 1) × (c ≡ 1))
+
+  -- of its references: 11 and 12
+  unfoldable pub ReferenceFault : List ℕ → FileFaults
+  ReferenceFault f n r c = (i : ℕ) × (i < begun f) × (r ≡ i + 1) × Some CheckFaults (E .refs (meanings E f) r (meaning E (lineAt f i))) n c
+
+  unfoldable pub HasFault : List ℕ → FileFaults
+  HasFault f n r c = FormFault f n r c ⊎ ReferenceFault f n r c
 
   -- with 1, where a lent table or output is too short
   unfoldable pub CallFaults : Bool → List ℕ → FileFaults
   CallFaults enough f n r c = ((enough ≡ false) × (n ≡ 1) × (r ≡ 0) × (c ≡ 0)) ⊎ HasFault f n r c
+
+  -- 02, T-05, "form not good"
+  unfoldable pub Malformed : List ℕ → Type 0
+  Malformed f = (n : ℕ) × (r : ℕ) × (c : ℕ) × FormFault f n r c
+
+  -- of `references`: "1, then new number 14 (form not good, record and column 0), then 11 and 12 as before"
+  unfoldable pub ReferencesFaults : Bool → List ℕ → FileFaults
+  ReferencesFaults enough f n r c =
+      ((enough ≡ false) × (n ≡ 1) × (r ≡ 0) × (c ≡ 0)) ⊎ ((Malformed f × (n ≡ 14) × (r ≡ 0) × (c ≡ 0)) ⊎ ReferenceFault f n r c)

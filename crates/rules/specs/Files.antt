@@ -69,9 +69,16 @@ module _ {S : Type 0} (E : Edition S) where
       let rest = refer file (r + 1) ms in
       inRecord r (run (E .refs file r m)) rest
 
+  -- 02, T-05: form and order, and references by themselves
+  abbrev pub formVerdict : List ℕ → Result
+  formVerdict f = walk (E .start) 1 (lines f)
+
+  abbrev pub referenceVerdict : List ℕ → Result
+  referenceVerdict f = refer (meanings f) 1 (meanings f)
+
   -- only a file with none of the others is judged for 11 and 12
   unfoldable pub verdict : List ℕ → Result
-  verdict f = andThen (walk (E .start) 1 (lines f)) (refer (meanings f) 1 (meanings f))
+  verdict f = andThen (formVerdict f) (referenceVerdict f)
 
   unfoldable pub accepted : List ℕ → Bool
   accepted f = isAccept (verdict f)

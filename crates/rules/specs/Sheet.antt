@@ -6,7 +6,7 @@ use lib.ListN.{length}
 use Rattle.rules.specs.Tests.{_≤?_, _=?_}
 use Rattle.rules.specs.Characters.{ascii}
 use Rattle.rules.specs.Digits.{numeral}
-use Rattle.rules.specs.Calls.{Answer, checkAnswer}
+use Rattle.rules.specs.Calls.{Answer, fileAnswer}
 
 -- the words of a line, parted by tabs; a line feed ends it
 unfoldable pub tabbed : List (List ℕ) → List ℕ
@@ -37,4 +37,4 @@ listed blocks a =
 
 -- up to 64,800 bytes; more gives the line of refusal 1
 unfoldable pub sheet : List ℕ → List ℕ → List ℕ
-sheet input table = cond (length input ≤? 64_800) (listed (length input / 81) (checkAnswer input table)) (fileLine 0 1 0 0)
+sheet input table = cond (length input ≤? 64_800) (listed (length input / 81) (fileAnswer input table)) (fileLine 0 1 0 0)

@@ -6,6 +6,7 @@ pub mod NumberLaws  -- the numbers in the columns
 pub mod StepLaws  -- one record
 pub mod ReferLaws  -- 11 and 12
 pub mod WalkLaws  -- the loop over the records
-pub mod CheckLaws  -- the whole check
-pub mod CheckDemands  -- demands 1 and 2, from the promise alone
-pub mod Refuted  -- wrong checks that the promise does not allow
+pub mod JudgeLaws  -- the whole file
+pub mod TogetherDemands  -- demands 1 and 2 of both calls together
+pub mod CallDemands  -- demands 1 and 2 of each call, from its promise alone, and what both say together
+pub mod Refuted  -- wrong programs that the promises do not allow

@@ -10,11 +10,10 @@ use lib.Dec.{eqb}
 use Rattle.rules.specs.Tests.{_&_, _≤?_, _=?_}
 use Rattle.rules.specs.Fields.{Verdict, ok, fault, check, _⨾_, Check, run}
 use Rattle.rules.specs.Records.{Meaning, codeAt, meaning, formedLine, meant}
-use Rattle.rules.specs.Files.{Result, inRecord, lineAt, begun, linesFrom, lines, meanings, refer, formedLines}
+use Rattle.rules.specs.Files.{inRecord, lineAt, begun, linesFrom, lines, meanings, refer, referenceVerdict, formedLines}
 use Rattle.rules.specs.Kinds.{kindOf, *25*, *70*, *72*, *80*, *91*, *92*}
 use Rattle.rules.specs.Members.{_∈_}
 use Rattle.rules.specs.References.{Family, stations, families, Naming, namings, isA, numberAt, definer, asked, namedCheck, refChecks, words}
-use Rattle.rules.specs.Calls.{answer}
 use Rattle.rules.specs.Chapter4.{chapter4}
 use Rattle.rules.proofs.Truth.{both, of≤, of>, to≡, of≡, no≡, of≢, cases, above-0}
 use Rattle.rules.proofs.RecordLaws.{line-meant}
@@ -22,13 +21,11 @@ use Rattle.rules.proofs.FileLaws.{lines-more, lines-none}
 use Rattle.rules.proofs.ReferenceLaws.{stations-in, family-in, word-in}
 use Rattle.rules.proofs.TableLaws.{own-range, named-range}
 use Rattle.kinds.specs.declared.Judged.{Judged}
-use Rattle.kinds.specs.declared.Checked.{Checked}
-use Rattle.kinds.specs.Values.{judgedOf, checkedOf}
+use Rattle.kinds.specs.Values.{judgedOf, faultOf}
 use Rattle.kinds.proofs.ValueLaws.{good-is, bad-is}
 use Rattle.reading.specs.Values.{natIn}
 use Rattle.walk.specs.Words.{slotIn}
-use Rattle.walk.specs.Walking.{refusal}
-use Rattle.walk.specs.References.{firstIn, undefinedIn, namedBy, wordCheck, namedIn, refIn, Referable, referredOf}
+use Rattle.walk.specs.References.{firstIn, undefinedIn, namedBy, wordCheck, namedIn, refIn, Referable}
 use Rattle.walk.proofs.WordLaws.{slot-family}
 use Rattle.walk.proofs.NumberLaws.{own-number, named-number, its-kind}
 
@@ -189,13 +186,13 @@ pub record Referring (f : List ℕ) (n i : ℕ) : Type 0 where
   pub form : formedLines chapter4 (i + 1) (linesFrom f (n - i) i) ≡ true
   pub same : refer chapter4 (meanings chapter4 f) (i + 1) (map (meaning chapter4) (linesFrom f (n - i) i)) ≡ refer chapter4 (meanings chapter4 f) 1 (meanings chapter4 f)
 
-pub refer-from : (f t : List ℕ) (v : Checked) → Referable f t v → (n : ℕ) → n ≡ begun f → Referring f n 0
+pub refer-from : (f t : List ℕ) → Referable f t → (n : ℕ) → n ≡ begun f → Referring f n 0
 unfolding meanings lines
-refer-from f t v h n e =
+refer-from f t h n e =
     let z : n - 0 ≡ begun f = omega arith in
     record { count = e; form = rw z (h .form); same = rw z }
 
-module _ (f t : List ℕ) (v : Checked) (given : Referable f t v) (n i : ℕ) (g : Referring f n i) where
+module _ (f t : List ℕ) (given : Referable f t) (n i : ℕ) (g : Referring f n i) where
   module _ (h : i < n) where
     fine : (i + 1 ≤? 99_999 & formedLine chapter4 (lineAt f i) ≡ true) × (formedLines chapter4 (i + 1 + 1) (linesFrom f (n - (i + 1)) (i + 1)) ≡ true)
     unfolding formedLines
@@ -211,14 +208,14 @@ module _ (f t : List ℕ) (v : Checked) (given : Referable f t v) (n i : ℕ) (g
       unfolding refer
       unrolled = rw (lines-more f n i h) at (g .same)
 
-      pub refer-fault : (m c : ℕ) → j ≡ Judged.Bad m c → {a : Checked} → a ≡ refusal m (i + 1) c → a ≡ referredOf f
-      unfolding referredOf inRecord answer checkedOf
-      refer-fault m c q w = w ∙ ap (λ (x : Result). checkedOf (answer x (meanings chapter4 f))) (rw (bad-is _ m c (sym judged ∙ q)) at unrolled)
+      pub refer-fault : (m c : ℕ) → j ≡ Judged.Bad m c → record { number = m; «record» = i + 1; column = c } ≡ faultOf (referenceVerdict chapter4 f)
+      unfolding inRecord faultOf
+      refer-fault m c q = ap faultOf (rw (bad-is _ m c (sym judged ∙ q)) at unrolled)
 
       pub refer-on : j ≡ Judged.Good → Referring f n (i + 1)
       unfolding inRecord
       refer-on q = record { count = g .count; form = fine .1; same = rw (good-is _ (sym judged ∙ q)) at unrolled }
 
-  pub refer-done : n ≤ i → v ≡ referredOf f
-  unfolding referredOf refer
-  refer-done h = given .accepting ∙ ap (λ (x : Result). checkedOf (answer x (meanings chapter4 f))) (rw (lines-none f n i h) at (g .same))
+  pub refer-done : n ≤ i → record { number = 0; «record» = 0; column = 0 } ≡ faultOf (referenceVerdict chapter4 f)
+  unfolding refer faultOf
+  refer-done h = ap faultOf (rw (lines-none f n i h) at (g .same))

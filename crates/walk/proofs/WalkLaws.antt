@@ -150,25 +150,29 @@ bump-below cs k i h f j =
     (λ a. rw (← to≡ a, getD-set-same cs k (getD cs k 0 + 1) 0 h) (omega (arith, f k)))
     (λ a. rw (getD-set-other cs k j (getD cs k 0 + 1) 0 (λ z. no≡ a (sym z))) (omega (arith, f j)))
 
--- before record i + 1, with the counts cs and the table t
-pub record Going (E : Edition Past) (f : List ℕ) (n : ℕ) (t : List ℕ) (s : Kept) (cs : List ℕ) (i : ℕ) : Type 0 where
+-- before record i + 1, with the counts cs and the words t, which were t₀
+pub record Going (E : Edition Past) (f : List ℕ) (n : ℕ) (t₀ t : List ℕ) (s : Kept) (cs : List ℕ) (i : ℕ) : Type 0 where
   pub count : n ≡ begun f
   pub few : i ≤ 99_999
   pub kinds : length cs ≡ 14
   pub below : (j : ℕ) → getD cs j 0 ≤ i
   pub counting : (k : ℕ) → k < 14 → getD cs k 0 + tally k (map (meaning E) (linesFrom f (n - i) i)) ≡ tally k (meanings E f)
-  pub size : length t ≡ 12_000
+  pub size : length t ≡ length t₀
   pub same : walk E (pastOf s) (i + 1) (linesFrom f (n - i) i) ≡ walk E (E .start) 1 (lines f)
-  pub filling : filled (i + 1) (map (meaning E) (linesFrom f (n - i) i)) t ≡ filled 1 (meanings E f) noWords
+  pub filling : filled (i + 1) (map (meaning E) (linesFrom f (n - i) i)) t ≡ filled 1 (meanings E f) t₀
+
+-- the words stay as many as they were
+pub no-longer : (t₀ t : List ℕ) → length t ≡ length t₀ → length t₀ ≤ 12_000 → length t ≤ 12_000
+no-longer t₀ t e h = omega arith
 
 none-yet : (n i j : ℕ) → getD (replicate n 0) j 0 ≤ i
 none-yet zero i j = omega arith
 none-yet (suc n) i zero = omega arith
 none-yet (suc n) i (suc j) = none-yet n i j
 
-pub go-from : (rows : List (List ℕ)) (last : ℕ) (f t : List ℕ) → t ≡ noWords → (n : ℕ) → n ≡ begun f → Going (ordered rows last) f n t atFirst (replicate 14 0) 0
+pub go-from : (rows : List (List ℕ)) (last : ℕ) (f t : List ℕ) (n : ℕ) → n ≡ begun f → Going (ordered rows last) f n t t atFirst (replicate 14 0) 0
 unfolding meanings lines
-go-from rows last f t zeros n e =
+go-from rows last f t n e =
     let z : n - 0 ≡ begun f = omega arith in
     record {
       count = e;
@@ -176,15 +180,15 @@ go-from rows last f t zeros n e =
       kinds = refl;
       below = none-yet 14 0;
       counting = λ k h. rw (z, getD-replicate {A = ℕ} 14 k 0 0 h) (omega arith);
-      size = ap length zeros ∙ length-none;
+      size = refl;
       same = rw z (ap (λ p. walk (ordered rows last) p 1 (linesFrom f (begun f) 0)) first);
-      filling = rw (z, zeros);
+      filling = rw z;
     }
   where
     first : pastOf atFirst ≡ atStart
     first = unfold pastOf jobOf atStart _=?_ in refl
 
-module _ (rows : List (List ℕ)) (last : ℕ) (f : List ℕ) (n : ℕ) (t : List ℕ) (s : Kept) (cs : List ℕ) (i : ℕ) (g : Going (ordered rows last) f n t s cs i) where
+module _ (rows : List (List ℕ)) (last : ℕ) (f : List ℕ) (n : ℕ) (t₀ t : List ℕ) (s : Kept) (cs : List ℕ) (i : ℕ) (g : Going (ordered rows last) f n t₀ t s cs i) where
   abbrev E : Edition Past
   E = ordered rows last
 
@@ -192,7 +196,7 @@ module _ (rows : List (List ℕ)) (last : ℕ) (f : List ℕ) (n : ℕ) (t : Lis
     here : walk E (pastOf s) (i + 1) (lineAt f i ∷ linesFrom f (n - (i + 1)) (i + 1)) ≡ walk E atStart 1 (lines f)
     here = rw (lines-more f n i h) at (g .same)
 
-    pub go-fault : (m c : ℕ) → a ≡ Fault m c → {v : Checked} → v ≡ refusal m (i + 1) c → Walked E f v t
+    pub go-fault : (m c : ℕ) → a ≡ Fault m c → {v : Checked} → v ≡ refusal m (i + 1) c → Walked E f v t₀ t
     go-fault m c q w =
         let z : refuse m (i + 1) c ≡ walk E atStart 1 (lines f) = walk-bad E (pastOf s) (i + 1) (lineAt f i) _ m c (rw (← el) (step-refuses rows last s (i + 1) l a ea m c q)) ∙ here in
         record {
@@ -215,7 +219,7 @@ module _ (rows : List (List ℕ)) (last : ℕ) (f : List ℕ) (n : ℕ) (t : Lis
           is-ok ok y = refl
           is-ok (fault m c) y = absurd (false≢true (unfold isOk in y))
 
-      pub go-next : (v : List ℕ) → v ≡ mark (i + 1) (slotIn k (leadIn k l)) t → Going E f n v u (set cs k (getD cs k 0 + 1)) (i + 1)
+      pub go-next : (v : List ℕ) → v ≡ mark (i + 1) (slotIn k (leadIn k l)) t → Going E f n t₀ v u (set cs k (getD cs k 0 + 1)) (i + 1)
       go-next v ev =
           let small : k < length cs = rw (g .kinds) go-known in
           record {
@@ -237,7 +241,7 @@ module _ (rows : List (List ℕ)) (last : ℕ) (f : List ℕ) (n : ℕ) (t : Lis
               let own : slotOf (meaning E l) ≡ slotIn k (leadIn k l) = unfold meaning in its-slot l k ek in
               ap (λ j. mark (i + 1) j t) (sym own ∙ ap (λ (x : List ℕ). slotOf (meaning E x)) el)
 
-          fills : filled (i + 1 + 1) (map (meaning E) (linesFrom f (n - (i + 1)) (i + 1))) (mark (i + 1) (slotOf (meaning E (lineAt f i))) t) ≡ filled 1 (meanings E f) noWords
+          fills : filled (i + 1 + 1) (map (meaning E) (linesFrom f (n - (i + 1)) (i + 1))) (mark (i + 1) (slotOf (meaning E (lineAt f i))) t) ≡ filled 1 (meanings E f) t₀
           fills = unfold filled in (rw (lines-more f n i h) at (g .filling))
 
   -- the end of the file
@@ -246,7 +250,7 @@ module _ (rows : List (List ℕ)) (last : ℕ) (f : List ℕ) (n : ℕ) (t : Lis
     unfolding walk pastOf
     ended = rw (lines-none f n i h) at (g .same)
 
-    pub go-short : (s .place ≡ last → ⊥) → {v : Checked} → v ≡ refusal 8 (i + 1) 1 → Walked E f v t
+    pub go-short : (s .place ≡ last → ⊥) → {v : Checked} → v ≡ refusal 8 (i + 1) 1 → Walked E f v t₀ t
     go-short e w =
         let z : refuse 8 (i + 1) 1 ≡ walk E atStart 1 (lines f) = rw (of≢ e) at ended in
         record {
@@ -262,7 +266,7 @@ module _ (rows : List (List ℕ)) (last : ℕ) (f : List ℕ) (n : ℕ) (t : Lis
         told : (k : ℕ) → k < 14 → getD cs k 0 ≡ getD (counts (meanings E f)) k 0
         told k y = let z : getD cs k 0 + 0 ≡ tally k (meanings E f) = unfold tally in (rw (lines-none f n i h) at (g .counting k y)) in omega (arith, z, count-at (meanings E f) k y)
 
-    pub go-good : s .place ≡ last → Walked E f record { fault = record { number = 0; «record» = 0; column = 0 }; counts = cs } t
+    pub go-good : s .place ≡ last → Walked E f record { fault = record { number = 0; «record» = 0; column = 0 }; counts = cs } t₀ t
     go-good e =
         let z : accept ≡ walk E atStart 1 (lines f) = rw (of≡ e) at ended in
         record {

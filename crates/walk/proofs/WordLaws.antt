@@ -1,5 +1,5 @@
 -- The lent table: one law for each way through the functions.
-use mathlib.Core.Path.{_≡_, refl, sym, _∙_}
+use mathlib.Core.Path.{_≡_, refl, sym, _∙_, ap}
 use mathlib.Core.Bool.{Bool, true, false, cond}
 use mathlib.Core.List.{List, _++_, append-nil}
 use Prim.Native.Nat.{ℕ, _+_, _≤_, _<_}
@@ -74,6 +74,9 @@ pub length-none : length noWords ≡ 12_000
 unfolding noWords
 length-none = length-replicate {A = ℕ} 12_000 0
 
+pub zeros-fit : (t : List ℕ) → t ≡ noWords → length t ≤ 12_000
+zeros-fit t e = omega (arith, ap length e, length-none)
+
 pub clear-more : (t₀ t : List ℕ) (i : ℕ) → length t₀ ≡ 12_000 → t ≡ replicate i 0 ++ drop i t₀ → i < 12_000 → set t i 0 ≡ replicate (i + 1) 0 ++ drop (i + 1) t₀
 clear-more t₀ t i n e h = rw e (fill-more i 0 t₀ (omega arith))
 
@@ -85,6 +88,17 @@ clear-done t₀ t i n e h k =
 
 pub mark-record : (r k : ℕ) (l t : List ℕ) → (n : ℕ) → n ≡ leadIn k l → (i : ℕ) → i ≡ slotIn k n → {u : List ℕ} → u ≡ mark r i t → u ≡ mark r (slotIn k (leadIn k l)) t
 mark-record r k l t n e i q z = z ∙ rw (q, e)
+
+-- a kind that defines nothing
+module _ (r k n : ℕ) (t : List ℕ) (h : length t ≤ 12_000) where
+  none-marked : (k ≡ *70* → ⊥) → (k ≡ *72* → ⊥) → (k ≡ *80* → ⊥) → t ≡ mark r (slotIn k n) t
+  none-marked a b c = rw (← slot-none k n a b c) (mark-beyond r 12_000 t h)
+
+  pub marked-below : k < 7 → t ≡ mark r (slotIn k n) t
+  marked-below l = none-marked (λ e. omega arith) (λ e. omega arith) (λ e. omega arith)
+
+  pub marked-above : 9 < k → t ≡ mark r (slotIn k n) t
+  marked-above l = none-marked (λ e. omega arith) (λ e. omega arith) (λ e. omega arith)
 
 pub word-past : (t : List ℕ) (i : ℕ) → length t ≤ i → 0 ≡ getD t i 0
 word-past t i h = sym (getD-past t 0 i h)

@@ -7,12 +7,9 @@ use lib.ListN.{getD}
 use Rattle.rules.specs.Tests.{_=?_}
 use Rattle.rules.specs.Fields.{Verdict, check, Check, run}
 use Rattle.rules.specs.Kinds.{*80*}
-use Rattle.rules.specs.Files.{accept, lines, meanings, refer, formedLines}
+use Rattle.rules.specs.Files.{lines, meanings, formedLines}
 use Rattle.rules.specs.References.{Naming, namings, words}
-use Rattle.rules.specs.Calls.{answer}
 use Rattle.rules.specs.Chapter4.{chapter4}
-use Rattle.kinds.specs.declared.Checked.{Checked}
-use Rattle.kinds.specs.Values.{checkedOf}
 use Rattle.reading.specs.Values.{natIn}
 use Rattle.walk.specs.Words.{slotIn}
 
@@ -39,11 +36,7 @@ namedIn t k l = run (map (wordCheck t l) (namedBy k namings))
 unfoldable pub refIn : List ℕ → ℕ → ℕ → List ℕ → Verdict
 refIn t r k l = cond (k =? *80*) (firstIn t r l) (namedIn t k l)
 
--- a file that the walk accepted, the table that it filled, and its answer
-pub record Referable (f t : List ℕ) (v : Checked) : Type 0 where
+-- a file that the walk accepted, and the table that it filled
+pub record Referable (f t : List ℕ) : Type 0 where
   pub form : formedLines chapter4 1 (lines f) ≡ true
   pub table : t ≡ words (meanings chapter4 f)
-  pub accepting : v ≡ checkedOf (answer accept (meanings chapter4 f))
-
-unfoldable pub referredOf : List ℕ → Checked
-referredOf f = checkedOf (answer (refer chapter4 (meanings chapter4 f) 1 (meanings chapter4 f)) (meanings chapter4 f))

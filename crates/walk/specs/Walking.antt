@@ -9,7 +9,7 @@ use Rattle.rules.specs.Fields.{Verdict, ok, fault, check, _⨾_}
 use Rattle.rules.specs.Records.{Edition, codeAt, judgeLine}
 use Rattle.rules.specs.Kinds.{kindOf}
 use Rattle.rules.specs.Order.{lastJob, goto}
-use Rattle.rules.specs.Files.{isAccept, lines, meanings, walk, verdict}
+use Rattle.rules.specs.Files.{isAccept, meanings, formVerdict, verdict}
 use Rattle.rules.specs.References.{words, filled}
 use Rattle.rules.specs.Calls.{answer}
 use Rattle.rules.specs.Chapter4.{ordered, chapter4}
@@ -38,15 +38,15 @@ stepOf rows s r l =
     let k = kindOf (codeAt l) in
     stepped (judgeAt rows s r l) (movedOf s (goto rows (s .place) k) k (getD l 7 0) (getD l 8 0) (leadIn k l))
 
--- what the walk answers of a file, and the words t that it leaves where they were all 0; after a fault they are not looked at again
-pub record Walked {S : Type 0} (E : Edition S) (f : List ℕ) (v : Checked) (t : List ℕ) : Type 0 where
-  pub first : v ≡ checkedOf (answer (walk E (E .start) 1 (lines f)) (meanings E f))
-  pub size : length t ≡ 12_000
-  pub filling : isAccept (walk E (E .start) 1 (lines f)) ≡ true → t ≡ filled 1 (meanings E f) noWords
+-- what the walk answers of a file, and the words t that it leaves of t₀; after a fault they are not looked at again
+pub record Walked {S : Type 0} (E : Edition S) (f : List ℕ) (v : Checked) (t₀ t : List ℕ) : Type 0 where
+  pub first : v ≡ checkedOf (answer (formVerdict E f) (meanings E f))
+  pub size : length t ≡ length t₀
+  pub filling : isAccept (formVerdict E f) ≡ true → t ≡ filled 1 (meanings E f) t₀
 
 -- a refusal leaves zeros
-unfoldable pub settledOf : Checked → List ℕ → List ℕ
-settledOf v t = cond (v .fault .number =? 0) t noWords
+unfoldable pub settledOf : ℕ → List ℕ → List ℕ
+settledOf number t = cond (number =? 0) t noWords
 
 -- the first 12,000 words in the end
 unfoldable pub tableAfter : List ℕ → List ℕ

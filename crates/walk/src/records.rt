@@ -18,6 +18,8 @@ use reading::lines::count_begun;
 use reading::lines::line;
 ghost use mathlib.Core.Path.{_≡_};
 ghost use mathlib.Core.Bool.{true};
+ghost use Prim.Native.Nat.{_≤_};
+ghost use lib.ListN.{length};
 ghost use Rattle.rules.specs.Records.{codeAt};
 ghost use Rattle.rules.specs.Kinds.{kindOf};
 ghost use Rattle.rules.specs.Order.{goto};
@@ -25,7 +27,6 @@ ghost use Rattle.rules.specs.Chapter4.{ordered};
 ghost use Rattle.kinds.specs.Values.{judgedOf};
 ghost use Rattle.quick.specs.Rows.{classTable};
 ghost use Rattle.walk.specs.Keeping.{tabular};
-ghost use Rattle.walk.specs.Words.{noWords};
 ghost use Rattle.walk.specs.Walking.{refusal, judgeAt, stepOf, Walked};
 
 // What one record does to the walk.
@@ -116,7 +117,7 @@ fn step(
 }
 
 // The first fault, or the counts, by any rows and the place that a file ends at; each good record that defines a number is put into the
-// table.
+// words, as far as they go.
 pub(crate) fn walk_records(
     file: &[u8],
     words: &mut [u32],
@@ -124,8 +125,8 @@ pub(crate) fn walk_records(
     last: usize,
     classes: &[[[u8; 80]; 5]; 14],
 ) -> Checked
-    requires { ⌜ (now words ≡ noWords) × (tabular (now rows) ≡ true) × (now classes ≡ classTable) ⌝ }
-    ensures { λ v. ⌜ Walked (ordered (now (rows .entry)) last) (now (file .entry)) v (now (words .exit)) ⌝ }
+    requires { ⌜ (length (now words) ≤ 12_000) × (tabular (now rows) ≡ true) × (now classes ≡ classTable) ⌝ }
+    ensures { λ v. ⌜ Walked (ordered (now (rows .entry)) last) (now (file .entry)) v (now (words .entry)) (now (words .exit)) ⌝ }
 {
     let n = count_begun(file);
     let mut s = Kept {

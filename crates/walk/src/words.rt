@@ -5,6 +5,7 @@ use kinds::Occupation;
 use kinds::Point;
 use reading::values::number_in;
 ghost use mathlib.Core.Path.{_≡_};
+ghost use Prim.Native.Nat.{_≤_};
 ghost use lib.ListN.{length, getD};
 ghost use Rattle.rules.specs.References.{mark};
 ghost use Rattle.walk.specs.Words.{noWords, leadIn, slotIn};
@@ -66,8 +67,16 @@ fn mark_word(words: &mut [u32], i: usize, record: u32)
     }
 }
 
+// Most records define nothing, and are done with their kind.
 pub(crate) fn mark_record(words: &mut [u32], line: &[u8], kind: usize, record: u32)
+    requires { ⌜ length (now words) ≤ 12_000 ⌝ }
     ensures { λ _. ⌜ now (words .exit) ≡ mark «record» (slotIn kind (leadIn kind (now (line .entry)))) (now (words .entry)) ⌝ }
 {
+    if kind < 7 {
+        return;
+    }
+    if 9 < kind {
+        return;
+    }
     mark_word(words, slot(kind, leading(line, kind)), record);
 }

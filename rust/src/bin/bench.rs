@@ -1,16 +1,16 @@
-//! Nanoseconds a record of check, rewrite and pad: the library, the plain and
-//! the tuned implementation and memcpy, in turn on the same files.
+//! Nanoseconds a record of form, references, rewrite and pad: the library, the
+//! plain and the tuned implementation and memcpy, in turn on the same files.
 //!
 //! ```text
 //! bench                      every file
 //! bench NAME..               the files whose names begin so: bench mixed '*8'
 //! bench --times N JOB NAME   one job on one file N times and no clock, for a
-//!                            profiler: bench --times 20 'check tuned' mixed
+//!                            profiler: bench --times 20 'form tuned' mixed
 //! ```
 //!
 //! memcpy copies as many bytes as a call puts into its output.
 
-use shelf::calls::{Calls, FileCalls, CHECK_WORDS};
+use shelf::calls::{Calls, FileCalls, REWRITE_WORDS};
 use shelf::generate::{accepted, accepted_mostly, stripped, Mostly};
 use shelf::library::{Library, IS_STANDIN};
 use shelf::plain::{self, Plain, LAST_RECORD, LINE, TABLE_WORDS};
@@ -90,16 +90,20 @@ fn house(file: Vec<u8>) -> Vec<u8> {
 #[derive(Clone, Copy)]
 enum Job {
     Memcpy,
-    Check(&'static dyn FileCalls),
+    Form(&'static dyn FileCalls),
+    References(&'static dyn FileCalls),
     Rewrite(&'static dyn FileCalls),
     Pad(&'static dyn Calls),
 }
 
-const JUDGING: [(&str, Job); 7] = [
+const JUDGING: [(&str, Job); 10] = [
     ("memcpy", Job::Memcpy),
-    ("check library", Job::Check(&Library)),
-    ("check plain", Job::Check(&Plain)),
-    ("check tuned", Job::Check(&Tuned)),
+    ("form library", Job::Form(&Library)),
+    ("form plain", Job::Form(&Plain)),
+    ("form tuned", Job::Form(&Tuned)),
+    ("references library", Job::References(&Library)),
+    ("references plain", Job::References(&Plain)),
+    ("references tuned", Job::References(&Tuned)),
     ("rewrite library", Job::Rewrite(&Library)),
     ("rewrite plain", Job::Rewrite(&Plain)),
     ("rewrite tuned", Job::Rewrite(&Tuned)),
@@ -144,7 +148,8 @@ impl Given {
 struct Lent {
     table: Vec<u32>,
     out: Vec<u8>,
-    answer: [u32; CHECK_WORDS],
+    /// As long as the longest needs it.
+    answer: [u32; REWRITE_WORDS],
 }
 
 impl Lent {
@@ -152,7 +157,7 @@ impl Lent {
         Lent {
             table: vec![0; TABLE_WORDS],
             out: vec![0; given.file().len()],
-            answer: [0; CHECK_WORDS],
+            answer: [0; REWRITE_WORDS],
         }
     }
 
@@ -162,7 +167,8 @@ impl Lent {
             let input = black_box(&given.input);
             match job {
                 Job::Memcpy => out.copy_from_slice(black_box(given.file())),
-                Job::Check(side) => side.check(input, table, answer),
+                Job::Form(side) => side.form(input, answer),
+                Job::References(side) => side.references(input, table, answer),
                 Job::Rewrite(side) => side.rewrite(input, table, out, answer),
                 Job::Pad(side) => side.pad(input, out, answer),
             }
@@ -183,7 +189,8 @@ fn agrees(job: Job, given: &Given) -> bool {
     let lent = left(job);
     let plain = match job {
         Job::Memcpy => return lent.out == given.file(),
-        Job::Check(_) => Job::Check(&Plain),
+        Job::Form(_) => Job::Form(&Plain),
+        Job::References(_) => Job::References(&Plain),
         Job::Rewrite(_) => Job::Rewrite(&Plain),
         Job::Pad(_) => Job::Pad(&Plain),
     };
@@ -266,16 +273,16 @@ fn print_times(words: &[String]) -> Result<(), String> {
 fn print_rows(table: &Table, rows: &[Timed]) {
     print!("{:<18}{:>8}", "file", "records");
     for (name, _) in table.jobs {
-        print!("{name:>17}");
+        print!("{name:>20}");
     }
     println!();
     for timed in rows {
         print!("{:<18}{:>8}", timed.name, timed.given.records());
         for nanoseconds in &timed.best {
             if table.in_memcpys {
-                print!("{nanoseconds:>10.1} x{:>5.2}", nanoseconds / timed.best[0]);
+                print!("{nanoseconds:>13.1} x{:>5.2}", nanoseconds / timed.best[0]);
             } else {
-                print!("{nanoseconds:>17.1}");
+                print!("{nanoseconds:>20.1}");
             }
         }
         println!();

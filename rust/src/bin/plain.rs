@@ -1,4 +1,5 @@
-//! The plain shelf by hand: check, read, rewrite, print a sheet, make a file.
+//! The plain shelf by hand: form, references, read, rewrite, print a sheet, make
+//! a file.
 
 use shelf::generate;
 use shelf::plain::layout::{FIELDS, KINDS};
@@ -9,7 +10,8 @@ use std::io::{self, Write};
 use std::process::ExitCode;
 
 const USAGE: &str = "\
-plain check FILE
+plain form FILE
+plain references FILE
 plain sheet FILE
 plain rewrite IN OUT
 plain read FILE RECORD
@@ -31,14 +33,19 @@ fn main() -> ExitCode {
 /// False when the file was refused.
 fn run(words: &[&str]) -> Result<bool, String> {
     match words {
-        ["check", file] => {
-            let mut table = vec![0; TABLE_WORDS];
-            let checked = plain::check(&load(file)?, &mut table);
+        ["form", file] => {
+            let checked = plain::form(&load(file)?);
             print_checked(&checked);
-            if checked.fault == Fault::ACCEPTED {
+            Ok(checked.fault == Fault::ACCEPTED)
+        }
+        ["references", file] => {
+            let mut table = vec![0; TABLE_WORDS];
+            let fault = plain::references(&load(file)?, &mut table);
+            print_fault(fault);
+            if fault == Fault::ACCEPTED {
                 print_table(&table);
             }
-            Ok(checked.fault == Fault::ACCEPTED)
+            Ok(fault == Fault::ACCEPTED)
         }
         ["sheet", file] => {
             let sheet = plain::sheet(&load(file)?);

@@ -1,7 +1,7 @@
 //! What is printed of the padding step.
 
-use super::{differing, rewritten, show_checked, show_fault, BYTE};
-use crate::plain::{check, pad, rewrite, LINE, TABLE_WORDS};
+use super::{differing, rewritten, show_checked, show_fault, show_judged, BYTE};
+use crate::plain::{pad, rewrite, LINE, TABLE_WORDS};
 use crate::specimens;
 use std::fs;
 use std::io::{self, Write};
@@ -60,8 +60,7 @@ fn show_padded(out: &mut impl Write, lines: &[u8]) -> io::Result<()> {
         let shown = shown.replace('\r', "\\r").replace('\n', "|\n");
         write!(out, "{shown}")?;
     }
-    write!(out, "check ")?;
-    show_checked(out, check(lines, &mut [0; TABLE_WORDS]))
+    show_judged(out, lines, &mut [0; TABLE_WORDS])
 }
 
 fn compare(out: &mut impl Write, data: &Path, name: &str) -> io::Result<()> {

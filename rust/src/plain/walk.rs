@@ -62,33 +62,43 @@ fn next(place: Place, kind: usize) -> Option<Place> {
     }
 }
 
-/// Checks a file. On acceptance the table says in which record each station,
-/// instrument and antenna is defined, an instrument in the first of its *70*.
-pub fn check(file: &[u8], table: &mut [u32]) -> Checked {
-    if table.len() < TABLE_WORDS {
-        return Checked::refused(Fault::TOO_SHORT);
-    }
-    let table = &mut table[..TABLE_WORDS];
-    table.fill(0);
-    let judged = walk(file, table).and_then(|counts| {
-        references(file, table)?;
-        Ok(counts)
-    });
-    match judged {
-        Ok(counts) => Checked {
-            fault: Fault::ACCEPTED,
-            counts,
-        },
-        Err(fault) => {
-            table.fill(0);
-            Checked::refused(fault)
-        }
+/// Judges form and order: faults 2 to 10. Whether what a record names is
+/// defined has no say here.
+pub fn form(file: &[u8]) -> Checked {
+    walk(file, |_, _| ()).map_or_else(Checked::refused, Checked::accepted)
+}
+
+/// Judges references: faults 11 and 12, and 14 where the form is not good. On
+/// acceptance the table says in which record each station, instrument and
+/// antenna is defined, an instrument in the first of its *70*.
+pub fn references(file: &[u8], table: &mut [u32]) -> Fault {
+    match judge(file, table) {
+        Ok(_) => Fault::ACCEPTED,
+        Err(fault) if fault.is_of_form() => Fault::FORM_NOT_GOOD,
+        Err(fault) => fault,
     }
 }
 
+/// Judges form and then references, in the paper's order of faults, for those
+/// who name the first of them all. Gives the counts.
+pub(super) fn judge(file: &[u8], table: &mut [u32]) -> Result<[u32; 14], Fault> {
+    let Some(table) = table.get_mut(..TABLE_WORDS) else {
+        return Err(Fault::TOO_SHORT);
+    };
+    table.fill(0);
+    let judged = walk(file, |word, record| define(table, word, record)).and_then(|counts| {
+        look_up(file, table)?;
+        Ok(counts)
+    });
+    if judged.is_err() {
+        table.fill(0);
+    }
+    judged
+}
+
 /// Judges every record in turn and then the end of the file: faults 2 to 10.
-/// Fills the table with the first definition of each number.
-fn walk(file: &[u8], table: &mut [u32]) -> Result<[u32; 14], Fault> {
+/// Hands over the word of each number that a record defines, and the record.
+fn walk(file: &[u8], mut define: impl FnMut(usize, u64)) -> Result<[u32; 14], Fault> {
     let mut counts = [0; 14];
     let mut place = Place::Nothing;
     let mut group_station = 0;
@@ -126,15 +136,15 @@ fn walk(file: &[u8], table: &mut [u32]) -> Result<[u32; 14], Fault> {
             OCCUPATION => group_station = values[0],
             INSTRUMENT => {
                 last_instrument = values[0];
-                define(table, FIRST_INSTRUMENT_WORD, last_instrument, record);
+                define(FIRST_INSTRUMENT_WORD + last_instrument as usize, record);
             }
             ANTENNA => {
                 last_antenna = values[0];
-                define(table, FIRST_ANTENNA_WORD, last_antenna, record);
+                define(FIRST_ANTENNA_WORD + last_antenna as usize, record);
             }
             POINT => {
                 point_station = values[0];
-                define(table, 0, point_station, record);
+                define(point_station as usize, record);
             }
             _ => (),
         }
@@ -153,12 +163,11 @@ fn walk(file: &[u8], table: &mut [u32]) -> Result<[u32; 14], Fault> {
     }
 }
 
-/// Puts a record into the word of the number it defines, where number 0 would
-/// have word `start`, unless the number has a record. The first of an
-/// instrument's *70* is the one to be found; a second *80* of a station is
-/// fault 11 later and must not hide the first.
-fn define(table: &mut [u32], start: usize, number: i64, record: u64) {
-    let word = &mut table[start + number as usize];
+/// Puts a record into the word of the number it defines, unless the number
+/// has a record. The first of an instrument's *70* is the one to be found; a
+/// second *80* of a station is fault 11 later and must not hide the first.
+fn define(table: &mut [u32], word: usize, record: u64) {
+    let word = &mut table[word];
     if *word == 0 {
         *word = record as u32;
     }
@@ -181,9 +190,9 @@ fn named(kind: usize) -> &'static [(usize, usize, usize)] {
 
 /// Faults 11 and 12, once the file has no other: a *25* may name a station
 /// whose *80* comes later, so the whole file has to be read first.
-fn references(file: &[u8], table: &[u32]) -> Result<(), Fault> {
+fn look_up(file: &[u8], table: &[u32]) -> Result<(), Fault> {
     for (record, line) in (1..).zip(file.chunks_exact(LINE)) {
-        judge_references(line, record, table).map_err(|(number, column)| Fault {
+        look_up_named(line, record, table).map_err(|(number, column)| Fault {
             number,
             record: u64::from(record),
             column: column as u64,
@@ -192,7 +201,7 @@ fn references(file: &[u8], table: &[u32]) -> Result<(), Fault> {
     Ok(())
 }
 
-fn judge_references(line: &[u8], record: u32, table: &[u32]) -> Result<(), At> {
+fn look_up_named(line: &[u8], record: u32, table: &[u32]) -> Result<(), At> {
     let kind = records::kind(line)?;
     let word =
         |first, width, start: usize| match fields::number(records::columns(line, first, width)) {
@@ -209,13 +218,13 @@ fn judge_references(line: &[u8], record: u32, table: &[u32]) -> Result<(), At> {
     }
 }
 
-/// Checks a file and puts it into `out` in house style.
+/// Judges form and references and puts the file into `out` in house style.
 pub fn rewrite(file: &[u8], table: &mut [u32], out: &mut [u8]) -> Checked {
     if out.len() < file.len() {
         return Checked::refused(Fault::TOO_SHORT);
     }
-    let checked = check(file, table);
-    if checked.fault == Fault::ACCEPTED {
+    let judged = judge(file, table);
+    if judged.is_ok() {
         let lines = file.chunks_exact(LINE).zip(out.chunks_exact_mut(LINE));
         for (record, (line, place)) in (1..).zip(lines) {
             let line = &line[..LINE - 1];
@@ -224,5 +233,5 @@ pub fn rewrite(file: &[u8], table: &mut [u32], out: &mut [u8]) -> Checked {
             }
         }
     }
-    checked
+    judged.map_or_else(Checked::refused, Checked::accepted)
 }

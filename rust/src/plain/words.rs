@@ -1,25 +1,26 @@
 //! The plain shelf in the word form of the library's header.
 
-use super::{check, field, pad, read, rewrite, write, Checked, Fault, LINE};
+use super::{field, form, pad, read, references, rewrite, write, Checked, Fault, LINE};
 use crate::calls::{
-    Calls, FileCalls, CHECK_WORDS, FIELD_WORDS, FIRST_GIVEN_VALUE, FIRST_VALUE_WORD, KIND_WORD,
-    NO_KIND, NO_SEQUENCE, PAD_WORDS, READ_WORDS, SEQUENCE_WORD, WRITE_WORDS,
+    Calls, FileCalls, FIELD_WORDS, FIRST_GIVEN_VALUE, FIRST_VALUE_WORD, FORM_WORDS, KIND_WORD,
+    NO_KIND, NO_SEQUENCE, PAD_WORDS, READ_WORDS, REFERENCES_WORDS, REWRITE_WORDS, SEQUENCE_WORD,
+    WRITE_WORDS,
 };
 
 /// The plain implementation behind the interface it shares with the library.
 pub struct Plain;
 
 impl FileCalls for Plain {
-    fn check(&self, file: &[u8], table: &mut [u32], answer: &mut [u32]) {
-        if let Some(answer) = answer.get_mut(..CHECK_WORDS) {
-            put_checked(answer, &check(file, table));
-        }
+    fn form(&self, file: &[u8], answer: &mut [u32]) {
+        put_checked(answer, FORM_WORDS, || form(file));
+    }
+
+    fn references(&self, file: &[u8], table: &mut [u32], answer: &mut [u32]) {
+        put_fault(answer, || references(file, table));
     }
 
     fn rewrite(&self, file: &[u8], table: &mut [u32], out: &mut [u8], answer: &mut [u32]) {
-        if let Some(answer) = answer.get_mut(..CHECK_WORDS) {
-            put_checked(answer, &rewrite(file, table, out));
-        }
+        put_checked(answer, REWRITE_WORDS, || rewrite(file, table, out));
     }
 }
 
@@ -86,8 +87,20 @@ fn fault_words(fault: &Fault) -> [u32; 3] {
     [fault.number, fault.record as u32, fault.column as u32]
 }
 
-pub(crate) fn put_checked(answer: &mut [u32], checked: &Checked) {
-    let (fault, counts) = answer.split_at_mut(3);
-    fault.copy_from_slice(&fault_words(&checked.fault));
-    counts.copy_from_slice(&checked.counts);
+/// Makes a call of which a fault is the answer, if there is room for it.
+pub(crate) fn put_fault(answer: &mut [u32], call: impl FnOnce() -> Fault) {
+    if let Some(answer) = answer.get_mut(..REFERENCES_WORDS) {
+        answer.copy_from_slice(&fault_words(&call()));
+    }
+}
+
+/// Makes a call of which a fault and counts are the answer, if there is room
+/// for these words.
+pub(crate) fn put_checked(answer: &mut [u32], words: usize, call: impl FnOnce() -> Checked) {
+    if let Some(answer) = answer.get_mut(..words) {
+        let checked = call();
+        let (fault, counts) = answer.split_at_mut(3);
+        fault.copy_from_slice(&fault_words(&checked.fault));
+        counts.copy_from_slice(&checked.counts);
+    }
 }

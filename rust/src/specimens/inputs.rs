@@ -10,9 +10,10 @@ pub struct Input {
     pub name: &'static str,
     /// Fault number, record, column and lines.
     pub answer: (u32, u64, u64, u32),
-    /// Check's fault number, record and column for the padded lines; a
-    /// refused input has none.
-    pub verdict: Option<(u32, u64, u64)>,
+    /// Form's fault number, record and column for the padded lines, and
+    /// references' fault number, whose record and column are 0; a refused
+    /// input has none.
+    pub verdict: Option<(u32, u64, u64, u32)>,
     /// What is in the input, and why answer and verdict are those.
     pub why: &'static str,
     pub bytes: Vec<u8>,
@@ -31,7 +32,7 @@ impl Input {
     fn good(
         name: &'static str,
         lines: u32,
-        verdict: (u32, u64, u64),
+        verdict: (u32, u64, u64, u32),
         why: &'static str,
         bytes: Vec<u8>,
     ) -> Input {
@@ -64,8 +65,10 @@ impl Input {
         let name = self.file_name();
         let (number, record, column, lines) = self.answer;
         let verdict = match self.verdict {
-            Some((number, record, column)) => format!("{number} | {record} | {column}"),
-            None => "- | - | -".to_string(),
+            Some((number, record, column, references)) => {
+                format!("{number} | {record} | {column} | {references}")
+            }
+            None => "- | - | - | -".to_string(),
         };
         let why = self.why;
         format!("| `{name}` | {number} | {record} | {column} | {lines} | {verdict} | {why} |\n")
@@ -74,7 +77,7 @@ impl Input {
 
 /// One accepted file as it stands and as editors leave it.
 fn deposits() -> Vec<Input> {
-    let accepted = (0, 0, 0);
+    let accepted = (0, 0, 0, 0);
     vec![
         Input::good(
             "padding_trimmed_lf",
@@ -134,8 +137,8 @@ fn long_lines() -> Vec<Input> {
         Input::good(
             "padding_80_bytes_and_cr_lf",
             1,
-            (8, 2, 1),
-            "80 bytes and CR LF: the end is no part of the line; check misses the *10*",
+            (8, 2, 1, 14),
+            "80 bytes and CR LF: the end is no part of the line; a *10* is missing",
             [&full_line(), &b"\r\n"[..]].concat(),
         ),
         Input::too_long(
@@ -152,21 +155,21 @@ fn returns_and_feeds() -> Vec<Input> {
         Input::good(
             "padding_cr_cr_lf",
             1,
-            (4, 1, 11),
+            (4, 1, 11, 14),
             "a job code, then CR CR LF: the second CR is of the end, the first is copied into column 11",
             b"000010*C3*\r\r\n".to_vec(),
         ),
         Input::good(
             "padding_lf_alone",
             1,
-            (6, 1, 7),
+            (6, 1, 7, 14),
             "one LF: a line of 0 bytes, padded to 80 blanks, which hold no code",
             b"\n".to_vec(),
         ),
         Input::good(
             "fault_08_empty",
             0,
-            (8, 1, 1),
+            (8, 1, 1, 14),
             "no byte at all: no line, and an empty file",
             Vec::new(),
         ),
@@ -182,8 +185,8 @@ fn trimmed() -> Vec<Input> {
     vec![Input::good(
         "padding_trimmed_month_13",
         3,
-        (9, 3, 16),
-        "three trimmed lines, ended by CR LF, by LF and by the input's end; the *12* is begun in month 13, which its last digit tells: what check refuses stays refused",
+        (9, 3, 16, 14),
+        "three trimmed lines, ended by CR LF, by LF and by the input's end; the *12* is begun in month 13, which its last digit tells: what is malformed stays refused",
         bytes
             .flat_map(|(line, end)| [without_blanks(line), end].concat())
             .collect(),

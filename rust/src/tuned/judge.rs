@@ -132,7 +132,7 @@ pub struct Named {
     pub antenna: Digits,
 }
 
-/// *25*. A number that is zero is found out later: nothing defines it.
+/// *25*.
 #[inline(always)]
 pub fn occupation(line: &Line) -> Option<Named> {
     let named = Named {
@@ -143,7 +143,13 @@ pub fn occupation(line: &Line) -> Option<Named> {
     // The maker's letter before the day is left out.
     let day = (four(line, 15) & !0xff).swap_bytes();
     let [least, most] = [*b"\x00001", *b"\x00366"].map(u32::from_be_bytes);
-    let good = formed::<OCCUPATION>(line) & (least <= day) & (day <= most) & outside_gap(line[19]);
+    let good = formed::<OCCUPATION>(line)
+        & is_positive(named.station)
+        & is_positive(named.instrument)
+        & is_positive(named.antenna)
+        & (least <= day)
+        & (day <= most)
+        & outside_gap(line[19]);
     good.then_some(named)
 }
 
@@ -212,17 +218,23 @@ fn codes_agree(line: &Line) -> bool {
     (pairs | (firsts & 0x10)) == 0
 }
 
-/// *91*. As of a *25*, a station that is zero is found out later.
+/// *91*.
 #[inline(always)]
 pub fn network(line: &Line) -> Option<Digits> {
-    (formed::<NETWORK>(line) & good_correlation(line, 41)).then_some(station(line, 11))
+    let number = station(line, 11);
+    let good = formed::<NETWORK>(line) & is_positive(number) & good_correlation(line, 41);
+    good.then_some(number)
 }
 
 /// *92*: standpoint and forepoint, which differ.
 #[inline(always)]
 pub fn local(line: &Line) -> Option<[Digits; 2]> {
     let [from, to] = [station(line, 11), station(line, 17)];
-    let good = formed::<LOCAL>(line) & (from != to) & good_correlation(line, 43);
+    let good = formed::<LOCAL>(line)
+        & is_positive(from)
+        & is_positive(to)
+        & (from != to)
+        & good_correlation(line, 43);
     good.then_some([from, to])
 }
 

@@ -8,33 +8,119 @@ use crate::plain::layout::{
 };
 use crate::plain::{FIRST_ANTENNA_WORD, FIRST_INSTRUMENT_WORD, LAST_RECORD, LINE, TABLE_WORDS};
 
+/// What becomes of the numbers that records name and define, each by the word
+/// of the table that is its own; `None` is a fault.
+trait Numbers {
+    /// A *25* names a number.
+    fn name(&mut self, at: usize) -> Option<()>;
+
+    fn define(&mut self, at: usize, record: u32) -> Option<()>;
+
+    /// A *91* or *92* names a station.
+    fn find(&self, at: usize) -> Option<()>;
+
+    /// Whether all that was named is defined, once the file is at its end.
+    fn are_all_defined(&self) -> bool;
+}
+
+/// References are not judged.
+struct Unjudged;
+
+impl Numbers for Unjudged {
+    #[inline(always)]
+    fn name(&mut self, _: usize) -> Option<()> {
+        Some(())
+    }
+
+    #[inline(always)]
+    fn define(&mut self, _: usize, _: u32) -> Option<()> {
+        Some(())
+    }
+
+    #[inline(always)]
+    fn find(&self, _: usize) -> Option<()> {
+        Some(())
+    }
+
+    fn are_all_defined(&self) -> bool {
+        true
+    }
+}
+
 /// The word of a number that a *25* named and nothing has defined yet. All
 /// *25* come before all definitions and all *91* and *92* after them, so one
 /// pass settles every reference.
 const NAMED: u32 = u32::MAX;
 
-struct Walk<'a> {
+struct Table<'a> {
+    words: &'a mut [u32; TABLE_WORDS],
+    /// How many words are [`NAMED`].
+    undefined: u32,
+}
+
+impl Numbers for Table<'_> {
+    #[inline(always)]
+    fn name(&mut self, at: usize) -> Option<()> {
+        let word = self.words.get_mut(at)?;
+        self.undefined += u32::from(*word == 0);
+        *word = NAMED;
+        Some(())
+    }
+
+    /// `None` if the number was defined before.
+    #[inline(always)]
+    fn define(&mut self, at: usize, record: u32) -> Option<()> {
+        let word = self.words.get_mut(at)?;
+        self.undefined -= u32::from(*word == NAMED);
+        let is_new = *word == 0 || *word == NAMED;
+        *word = record;
+        is_new.then_some(())
+    }
+
+    /// `None` if no point has this station. One that is only [`NAMED`] is
+    /// among the undefined anyway.
+    #[inline(always)]
+    fn find(&self, at: usize) -> Option<()> {
+        let word = self.words.get(at)?;
+        (*word != 0).then_some(())
+    }
+
+    fn are_all_defined(&self) -> bool {
+        self.undefined == 0
+    }
+}
+
+struct Walk<'a, N> {
     rest: &'a [u8],
     /// The number of the record last taken.
     record: u32,
-    table: &'a mut [u32; TABLE_WORDS],
-    /// How many words are [`NAMED`].
-    undefined: u32,
+    numbers: N,
     counts: [u32; 14],
 }
 
-/// The counts of a good file, with its table filled; `None` of a file that
-/// has a fault, and then the table is left as it happens to be.
-pub fn accepted(file: &[u8], table: &mut [u32; TABLE_WORDS]) -> Option<[u32; 14]> {
+/// The counts of a file of good form and order; `None` of another.
+pub fn formed(file: &[u8]) -> Option<[u32; 14]> {
+    walk(file, Unjudged)
+}
+
+/// The counts of a good file, with its table filled; `None` if it has a fault
+/// or the table is too short. A table that is long enough is then left as it
+/// happens to be.
+pub fn accepted(file: &[u8], table: &mut [u32]) -> Option<[u32; 14]> {
+    let words = table.first_chunk_mut()?;
+    words.fill(0);
+    let undefined = 0;
+    walk(file, Table { words, undefined })
+}
+
+fn walk(file: &[u8], numbers: impl Numbers) -> Option<[u32; 14]> {
     if file.len() > LAST_RECORD as usize * LINE {
         return None;
     }
-    table.fill(0);
     let mut walk = Walk {
         rest: file,
         record: 0,
-        table,
-        undefined: 0,
+        numbers,
         counts: [0; 14],
     };
     let code = walk.head()?;
@@ -45,10 +131,10 @@ pub fn accepted(file: &[u8], table: &mut [u32; TABLE_WORDS]) -> Option<[u32; 14]
     let last = walk.take()?;
     let good = judge::job(last) && last[6..10] == code && walk.rest.is_empty();
     walk.counts[JOB] = 2;
-    (good && walk.undefined == 0).then_some(walk.counts)
+    (good && walk.numbers.are_all_defined()).then_some(walk.counts)
 }
 
-impl<'a> Walk<'a> {
+impl<'a, N: Numbers> Walk<'a, N> {
     /// Whether a record of this code comes next, as far as its two characters
     /// say; the whole code is judged with the record.
     #[inline(always)]
@@ -92,9 +178,10 @@ impl<'a> Walk<'a> {
         let [mut groups, mut comments, before] = [0, 0, self.record];
         loop {
             let named = judge::occupation(self.take()?)?;
-            self.name(judge::value(named.station))?;
-            self.name(FIRST_INSTRUMENT_WORD + judge::value(named.instrument))?;
-            self.name(FIRST_ANTENNA_WORD + judge::value(named.antenna))?;
+            let numbers = &mut self.numbers;
+            numbers.name(judge::value(named.station))?;
+            numbers.name(FIRST_INSTRUMENT_WORD + judge::value(named.instrument))?;
+            numbers.name(FIRST_ANTENNA_WORD + judge::value(named.antenna))?;
             groups += 1;
             while self.comes(b"26") {
                 self.take_good(judge::formed::<COMMENT>)?;
@@ -185,7 +272,7 @@ impl<'a> Walk<'a> {
         let before = self.record;
         while self.comes(b"91") {
             let station = judge::network(self.take()?)?;
-            self.find(station)?;
+            self.numbers.find(judge::value(station))?;
         }
         Some(self.record - before)
     }
@@ -194,35 +281,14 @@ impl<'a> Walk<'a> {
         let before = self.record;
         while self.comes(b"92") {
             let [from, to] = judge::local(self.take()?)?;
-            self.find(from)?;
-            self.find(to)?;
+            self.numbers.find(judge::value(from))?;
+            self.numbers.find(judge::value(to))?;
         }
         Some(self.record - before)
     }
 
-    /// `None` if no point has this station. One that is only [`NAMED`] is
-    /// among the undefined anyway.
-    #[inline(always)]
-    fn find(&self, station: Digits) -> Option<()> {
-        let word = self.table.get(judge::value(station))?;
-        (*word != 0).then_some(())
-    }
-
-    #[inline(always)]
-    fn name(&mut self, at: usize) -> Option<()> {
-        let word = self.table.get_mut(at)?;
-        self.undefined += u32::from(*word == 0);
-        *word = NAMED;
-        Some(())
-    }
-
-    /// `None` if the number was defined before.
     #[inline(always)]
     fn define(&mut self, at: usize) -> Option<()> {
-        let word = self.table.get_mut(at)?;
-        self.undefined -= u32::from(*word == NAMED);
-        let is_new = *word == 0 || *word == NAMED;
-        *word = self.record;
-        is_new.then_some(())
+        self.numbers.define(at, self.record)
     }
 }

@@ -1,7 +1,9 @@
 //! Tables, outputs and answers of every length that matters.
 
 use crate::sides::Sides;
-use shelf::calls::{CHECK_WORDS, FIELD_WORDS, READ_WORDS, WRITE_WORDS};
+use shelf::calls::{
+    FIELD_WORDS, FORM_WORDS, READ_WORDS, REFERENCES_WORDS, REWRITE_WORDS, WRITE_WORDS,
+};
 use shelf::generate;
 use shelf::plain::{LINE, TABLE_WORDS};
 use shelf::sample;
@@ -11,9 +13,6 @@ const TABLES: [usize; 6] = [0, 1, 11_998, TABLE_WORDS - 1, TABLE_WORDS, TABLE_WO
 /// Accepted ones and one of each fault that a file can have.
 fn files() -> Vec<Vec<u8>> {
     let good = sample::file();
-    let mut repeated = sample::lines();
-    repeated.insert(20, sample::point("0345"));
-    repeated.insert(21, sample::no_heights("0345"));
     let mut files = vec![
         good.clone(),
         generate::accepted(41, 11),
@@ -27,7 +26,7 @@ fn files() -> Vec<Vec<u8>> {
         sample::with(&good, 3, 7, "*86*"),
         sample::with(&good, 5, 28, "  x"),
         sample::with(&good, 7, 11, "0345"),
-        repeated.concat(),
+        sample::repeated_station(),
         sample::with(&good, 5, 33, "  9"),
     ];
     // Fault 1 goes before all that the bytes say.
@@ -35,23 +34,51 @@ fn files() -> Vec<Vec<u8>> {
     files
 }
 
+/// The files and all that begins them, by whole records.
 #[test]
-fn check() {
+fn form() {
     let mut sides = Sides::new();
-    let mut faults = [0; 14];
+    let mut faults = [0; 15];
     for file in files() {
-        for words in TABLES {
-            for answers in 0..=CHECK_WORDS + 4 {
-                let [number, ..] = sides.check_lent(&file, words, answers);
-                if answers >= CHECK_WORDS {
+        for end in (0..file.len()).step_by(LINE).chain([file.len()]) {
+            for answers in 0..=FORM_WORDS + 4 {
+                let [number, ..] = sides.form_lent(&file[..end], answers);
+                if answers >= FORM_WORDS {
                     faults[number as usize] += 1;
                 }
             }
         }
     }
-    sides.tried(1_500);
-    for number in [0, 1, 3, 4, 5, 6, 7, 8, 9, 10, 11, 12] {
+    sides.tried(5_000);
+    for number in [0, 3, 4, 5, 6, 7, 8, 9, 10] {
         assert!(faults[number] > 0, "fault {number}");
+    }
+}
+
+/// Refusal 1 goes before 14, and 14 before 11 and 12.
+#[test]
+fn references() {
+    let mut sides = Sides::new();
+    let mut faults = [0; 15];
+    for file in files() {
+        sides.judge(&file);
+        for words in TABLES {
+            for answers in 0..=REWRITE_WORDS + 4 {
+                let [number, record, column] = sides.references_lent(&file, words, answers);
+                if answers >= REFERENCES_WORDS {
+                    faults[number as usize] += 1;
+                    assert_eq!(number == 1, words < TABLE_WORDS);
+                    assert!(number == 11 || number == 12 || [record, column] == [0, 0]);
+                }
+            }
+        }
+    }
+    sides.tried(1_500);
+    for number in [0, 1, 11, 12, 14] {
+        assert!(faults[number] > 0, "fault {number}");
+    }
+    for number in 3..=10 {
+        assert!(sides.not_formed(number) > 0, "fault {number} of form");
     }
 }
 
@@ -71,7 +98,7 @@ fn rewrite() {
         ];
         for words in TABLES {
             for room in rooms {
-                for answers in [0, 1, 3, CHECK_WORDS - 1, CHECK_WORDS, CHECK_WORDS + 4] {
+                for answers in [0, 1, 3, REWRITE_WORDS - 1, REWRITE_WORDS, REWRITE_WORDS + 4] {
                     sides.rewrite_lent(&file, words, room, answers);
                 }
             }

@@ -9,9 +9,9 @@ use shelf::{generate, sample};
 
 const LAST: usize = LAST_RECORD as usize;
 
-/// Check, rewrite, and read and field about the last records.
+/// Form, references, rewrite, and read and field about the last records.
 fn try_all(sides: &mut Sides, file: &[u8]) {
-    sides.check(file);
+    sides.judge(file);
     sides.rewrite(file);
     for record in [1, 50_000, 99_998, 99_999, 100_000, 100_001] {
         sides.read(file, record);
@@ -40,9 +40,10 @@ fn records_99_999() {
         }
     }
     sides.tried(300);
-    for number in [0, 2, 3, 4, 5, 6, 8, 9, 13] {
+    for number in [0, 2, 3, 4, 5, 6, 8, 9, 13, 14] {
         assert!(sides.faults(number) > 0, "fault {number}");
     }
+    assert!(sides.not_formed(2) >= 6);
 }
 
 #[test]
@@ -57,6 +58,7 @@ fn records_100_000_and_more() {
     }
     sides.tried(100);
     assert!(sides.faults(2) >= 6 && sides.faults(8) >= 3);
+    assert!(sides.not_formed(2) >= 6 && sides.not_formed(8) >= 3);
 }
 
 /// As many *70* of one number as a file can have, one of another behind them,
@@ -86,8 +88,8 @@ fn long_files_damaged() {
     for way in generate::DAMAGES {
         let mut file = good.clone();
         generate::damage(&mut dice, &mut file, way);
-        sides.check(&file);
+        sides.judge(&file);
         sides.rewrite(&file);
     }
-    sides.tried(2 * generate::DAMAGES.len() as u64);
+    sides.tried(3 * generate::DAMAGES.len() as u64);
 }

@@ -3,10 +3,10 @@
 //! what stands behind each of them. `cargo test --release` runs it on all
 //! cores.
 
-mod check;
 mod field;
 mod files;
 mod inputs;
+mod judging;
 mod lent;
 mod limits;
 mod pad;
@@ -45,7 +45,7 @@ mod least {
     pub const PAD_CUT: u64 = 640_000;
     pub const PAD_RANDOM: u64 = 340_000;
 
-    /// Check, rewrite and read each try these families.
+    /// Form, references, rewrite and read each try these families.
     const OF_FILES: u64 = EVERY_BYTE
         + FILLED
         + ANGLES
@@ -56,11 +56,11 @@ mod least {
         + DAMAGED
         + CUT
         + ORDER;
-    const ALL: u64 = 3 * OF_FILES
+    const ALL: u64 = 4 * OF_FILES
         + READ_RECORDS
-        + 2 * CHARACTERS
+        + 3 * CHARACTERS
         + BEGINNINGS
-        + BEGINNINGS / 5
+        + 2 * BEGINNINGS / 5
         + FIELDS
         + WRITE_WORDS
         + WRITE_TEXTS
@@ -74,5 +74,5 @@ mod least {
         + PAD_PUT_IN
         + PAD_CUT
         + PAD_RANDOM;
-    const _: () = assert!(ALL > 4_000_000 && PAD > 1_000_000);
+    const _: () = assert!(ALL > 8_000_000 && PAD > 1_000_000);
 }

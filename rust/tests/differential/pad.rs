@@ -113,7 +113,7 @@ fn every_trim_of_a_file() {
             }
         }
     }
-    sides.tried(4_000);
+    sides.tried(6_000);
 }
 
 /// Accepted files as they stand, and with trims and ends at random.
@@ -137,28 +137,28 @@ fn accepted_files() {
         }
         gives_back(&mut sides, &mixed, &file);
     }
-    sides.tried(15_000);
+    sides.tried(22_500);
 }
 
-/// The input pads to the file, which check accepts.
+/// The input pads to the file, which form and references accept.
 fn gives_back(sides: &mut Sides, input: &[u8], file: &[u8]) {
     let good = sides.faults(0);
     assert!(sides.pad(input) == file);
-    sides.check(file);
-    assert_eq!(sides.faults(0), good + 2);
+    sides.judge(file);
+    assert_eq!(sides.faults(0), good + 3);
 }
 
-/// Damaged files: what check says of a padded file.
+/// Damaged files: what form and references say of a padded file.
 #[test]
 fn damaged_files() {
     let mut sides = Sides::new();
     for seed in (0..10_000).filter(|seed| seed % 64 != 63) {
         let file = generate::case(seed);
         let padded = sides.pad(&file).to_vec();
-        sides.check(&padded);
+        sides.judge(&padded);
     }
-    sides.tried(19_000);
-    for number in [0, 4, 5, 6, 7, 8, 9, 10, 11, 12] {
+    sides.tried(28_000);
+    for number in [0, 4, 5, 6, 7, 8, 9, 10, 11, 12, 14] {
         assert!(sides.faults(number) > 50, "fault {number}");
     }
 }

@@ -1,14 +1,15 @@
-//! The column of fault 9, in check and in read: each character of good records
+//! The column of fault 9, in form and in read, and what references says: each
+//! character of good records
 //! in another dress than the sample's, whose own bytes are tried with the
 //! other families, and every beginning of every field.
 
 use crate::files::Family;
+use crate::judging::Judged;
 use crate::least;
 use crate::sides::Sides;
 use shelf::plain::layout::{kind_of, Field, Form, FIELDS};
 use shelf::plain::LINE;
 use shelf::sample;
-use std::cell::Cell;
 use std::ops::RangeInclusive;
 
 /// What is not printable is fault 4.
@@ -110,10 +111,6 @@ fn changes(width: usize) -> impl Iterator<Item = (usize, u8, Option<u8>)> {
     characters.flat_map(|(length, one)| FILLINGS.map(|filling| (length, one, filling)))
 }
 
-fn checked(family: Family, least: u64) -> Sides {
-    Sides::over(family, least, |sides, file, _| sides.check(file))
-}
-
 fn read(family: Family, least: u64) -> Sides {
     Sides::over(family, least, |sides, file, record| {
         sides.read(file, record)
@@ -128,14 +125,16 @@ fn lines_in_other_dress_are_good() {
             try_file(file, record_at(start))
         });
     };
-    assert_eq!(checked(unchanged, 1).faults(0), lines);
+    let Judged { form, references } = Judged::over(unchanged, 1);
+    assert_eq!([form.faults(0), references.faults(0)], [lines; 2]);
     assert_eq!(read(unchanged, 1).faults(0), lines);
 }
 
 #[test]
-fn every_character_checked() {
-    let sides = checked(every_character, least::CHARACTERS);
-    assert!(sides.faults(9) > 30_000 && sides.faults(10) > 100);
+fn every_character_judged() {
+    let Judged { form, references } = Judged::over(every_character, least::CHARACTERS);
+    assert!(form.faults(9) > 30_000 && form.faults(10) > 100);
+    assert!(references.not_formed(9) > 30_000 && references.faults(12) > 100);
 }
 
 #[test]
@@ -144,19 +143,22 @@ fn every_character_read() {
     assert!(sides.faults(9) > 30_000 && sides.faults(10) > 100);
 }
 
-/// A check takes longer than a reading: it gets one of the fillings behind
+/// Judging takes longer than a reading: it gets one of the fillings behind
 /// each beginning and character, by turns.
 #[test]
-fn beginnings_checked() {
-    let number = Cell::new(0);
-    let sides = Sides::over(beginnings, least::BEGINNINGS / 5, |sides, file, _| {
-        let (turn, filling) = (number.get() / FILLINGS.len(), number.get() % FILLINGS.len());
-        number.set(number.get() + 1);
+fn beginnings_judged() {
+    let mut judged = Judged::new();
+    let mut number = 0;
+    beginnings(&mut |file, _| {
+        let (turn, filling) = (number / FILLINGS.len(), number % FILLINGS.len());
+        number += 1;
         if filling == turn % FILLINGS.len() {
-            sides.check(file);
+            judged.judge(file);
         }
     });
-    every_column_was_named(&sides);
+    judged.tried(least::BEGINNINGS / 5);
+    every_column_was_named(&judged.form);
+    assert!(judged.references.not_formed(9) > 50_000 && judged.references.faults(12) > 100);
 }
 
 #[test]

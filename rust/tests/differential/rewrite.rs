@@ -1,4 +1,5 @@
-//! Rewrite, on the files that check is tried on; enough of them are accepted.
+//! Rewrite, on the files that form and references are tried on; enough of them
+//! are accepted.
 
 use crate::files::{self, Family};
 use crate::least;
@@ -56,4 +57,26 @@ fn cut() {
 #[test]
 fn order() {
     assert!(rewritten(files::order, least::ORDER) > 500);
+}
+
+/// Rewrite answers what form and references answer together.
+fn together(family: Family, least: u64) -> Sides {
+    let sides = Sides::over(family, 3 * least, |sides, file, _| sides.together(file));
+    assert_eq!(sides.faults(14), 0);
+    sides
+}
+
+#[test]
+fn damaged_and_judged_by_both() {
+    let sides = together(files::damaged, least::DAMAGED);
+    for number in [0, 3, 4, 5, 6, 7, 8, 9, 10, 11, 12] {
+        assert!(sides.faults(number) > 500, "fault {number}");
+    }
+}
+
+#[test]
+fn order_and_references_judged_by_both() {
+    assert!(together(files::order, least::ORDER).faults(0) > 500);
+    assert!(together(files::references, least::REFERENCES).faults(12) > 50);
+    assert!(together(files::receivers, least::RECEIVERS).faults(12) > 200);
 }

@@ -2,7 +2,8 @@
 
 use crate::files::Family;
 use shelf::calls::{
-    Calls, FileCalls, CHECK_WORDS, FIELD_WORDS, PAD_WORDS, READ_WORDS, WRITE_WORDS,
+    Calls, FileCalls, FIELD_WORDS, FORM_WORDS, PAD_WORDS, READ_WORDS, REFERENCES_WORDS,
+    REWRITE_WORDS, WRITE_WORDS,
 };
 use shelf::library::Library;
 use shelf::plain::layout::{kind_of, KINDS};
@@ -24,6 +25,12 @@ const BEYOND: usize = 5;
 /// The row of [`Sides::places`] for records that have no known code.
 const NO_KIND: usize = KINDS.len();
 
+/// Fault numbers, 0 among them.
+const NUMBERS: usize = 15;
+
+/// The form is not good: references says so, and no other call.
+const FORM_NOT_GOOD: u32 = 14;
+
 pub struct Sides {
     tables: [Vec<u32>; 3],
     outs: [Vec<u8>; 3],
@@ -31,6 +38,8 @@ pub struct Sides {
     cases: u64,
     /// How often each fault came, by number, kind of its record and column.
     places: Vec<[[u32; LINE + 1]; NO_KIND + 1]>,
+    /// How often references answered 14, by form's number.
+    not_formed: [u32; NUMBERS],
 }
 
 impl Sides {
@@ -39,49 +48,101 @@ impl Sides {
             tables: [const { Vec::new() }; 3],
             outs: [const { Vec::new() }; 3],
             cases: 0,
-            places: vec![[[0; LINE + 1]; NO_KIND + 1]; 14],
+            places: vec![[[0; LINE + 1]; NO_KIND + 1]; NUMBERS],
+            not_formed: [0; NUMBERS],
         }
     }
 
-    /// Check with all that it needs and a word more.
-    pub fn check(&mut self, file: &[u8]) {
-        let fault = self.check_lent(file, TABLE_WORDS + 1, CHECK_WORDS + 1);
+    /// Form with all that it needs and a word more. Gives its number.
+    pub fn form(&mut self, file: &[u8]) -> u32 {
+        let fault = self.form_lent(file, FORM_WORDS + 1);
         self.place(file, fault);
-        self.tuned_alone(file, fault[0] == 0);
+        tuned_alone(file, "form", tuned::formed(file), fault);
+        fault[0]
     }
 
-    /// The tuned implementation hands a file over as soon as it finds it
-    /// faulty, and what is answered then is not its own: so it is asked by
-    /// itself whether a file is good.
-    fn tuned_alone(&self, file: &[u8], expected: bool) {
-        let found = tuned::accepted(file, &mut [0; TABLE_WORDS]).is_some();
-        if found != expected {
-            panic!(
-                "tuned alone: good {found}, plain {expected}; {}",
-                keep(file)
-            );
+    /// Form with so many words of an answer. Gives the first words of it: the
+    /// fault, if there was room for it.
+    pub fn form_lent(&mut self, file: &[u8], answers: usize) -> [u32; 3] {
+        let mark = self.mark();
+        let mut given = [[mark; FORM_WORDS + BEYOND]; 3];
+        for side in 0..3 {
+            OF_FILES[side].form(file, &mut given[side][..answers]);
+        }
+        let about = || format!("form, answer of {answers} words");
+        same(file, &about, "answer", &given);
+        [given[1][0], given[1][1], given[1][2]]
+    }
+
+    /// References with all that it needs and a word more, of a file to which
+    /// form answered `formed`: 14 exactly where form refuses.
+    pub fn references(&mut self, file: &[u8], formed: u32) {
+        let fault = self.references_lent(file, TABLE_WORDS + 1, REFERENCES_WORDS + 1);
+        self.place(file, fault);
+        let good = tuned::accepted(file, &mut self.tables[2]);
+        tuned_alone(file, "references", good, fault);
+        if (fault[0] == FORM_NOT_GOOD) != (formed != 0) {
+            panic!("form {formed}, references {fault:?}; {}", keep(file));
+        }
+        if fault[0] == FORM_NOT_GOOD {
+            self.not_formed[formed as usize] += 1;
         }
     }
 
-    /// Check with so many words of a table and of an answer. Gives the first
-    /// words of the answer: the fault, if there was room for it.
-    pub fn check_lent(&mut self, file: &[u8], words: usize, answers: usize) -> [u32; 3] {
+    /// Form, and then references.
+    pub fn judge(&mut self, file: &[u8]) {
+        let formed = self.form(file);
+        self.references(file, formed);
+    }
+
+    /// References with so many words of a table and of an answer. Gives the
+    /// fault, if there was room for it.
+    pub fn references_lent(&mut self, file: &[u8], words: usize, answers: usize) -> [u32; 3] {
         let mark = self.mark();
-        let mut given = [[mark; CHECK_WORDS + BEYOND]; 3];
+        // Tried with answers as long as the other calls' too.
+        let mut given = [[mark; REWRITE_WORDS + BEYOND]; 3];
         for side in 0..3 {
             let table = renewed(&mut self.tables[side], words, mark);
-            OF_FILES[side].check(file, table, &mut given[side][..answers]);
+            OF_FILES[side].references(file, table, &mut given[side][..answers]);
         }
-        let about = || format!("check, table of {words}, answer of {answers} words");
+        let about = || format!("references, table of {words}, answer of {answers} words");
         same(file, &about, "answer", &given);
         same(file, &about, "table", &self.tables);
         [given[1][0], given[1][1], given[1][2]]
     }
 
+    /// The library's form and references say of a file what its rewrite says,
+    /// and references leaves rewrite's table. These are three cases.
+    pub fn together(&mut self, file: &[u8]) {
+        let [mark, ..] = [self.mark(), self.mark(), self.mark()];
+        let [table, other, _] = &mut self.tables;
+        let [table, other] = [table, other].map(|part| renewed(part, TABLE_WORDS + 1, mark));
+        let mut formed = [mark; FORM_WORDS];
+        let mut named = [mark; REFERENCES_WORDS];
+        Library.form(file, &mut formed);
+        Library.references(file, table, &mut named);
+        let mut expected = [mark; REWRITE_WORDS];
+        let out = renewed(&mut self.outs[0], file.len(), mark as u8);
+        Library.rewrite(file, other, out, &mut expected);
+        let said = match named {
+            [0 | FORM_NOT_GOOD, ..] => formed,
+            [number, record, column] => {
+                assert_eq!(formed[0], 0, "{}", keep(file));
+                let mut refused = [0; REWRITE_WORDS];
+                refused[..3].copy_from_slice(&[number, record, column]);
+                refused
+            }
+        };
+        assert_eq!(said, expected, "{}", keep(file));
+        assert!(table == other, "the tables differ; {}", keep(file));
+        let [number, record, column, ..] = expected;
+        self.place(file, [number, record, column]);
+    }
+
     /// Rewrite with all that it needs and a word and a byte more.
     pub fn rewrite(&mut self, file: &[u8]) {
         let room = file.len() + 1;
-        let fault = self.rewrite_lent(file, TABLE_WORDS + 1, room, CHECK_WORDS + 1);
+        let fault = self.rewrite_lent(file, TABLE_WORDS + 1, room, REWRITE_WORDS + 1);
         self.place(file, fault);
     }
 
@@ -95,7 +156,7 @@ impl Sides {
         answers: usize,
     ) -> [u32; 3] {
         let mark = self.mark();
-        let mut given = [[mark; CHECK_WORDS + BEYOND]; 3];
+        let mut given = [[mark; REWRITE_WORDS + BEYOND]; 3];
         for side in 0..3 {
             let table = renewed(&mut self.tables[side], words, mark);
             let out = renewed(&mut self.outs[side], room, mark as u8);
@@ -238,9 +299,32 @@ impl Sides {
         self.places[number].iter().flatten().sum()
     }
 
+    /// Whether no fault but these came.
+    pub fn are_all(&self, numbers: &[usize]) -> bool {
+        (0..NUMBERS).all(|number| numbers.contains(&number) || self.faults(number) == 0)
+    }
+
+    /// How often references answered 14 where form had this fault.
+    pub fn not_formed(&self, number: usize) -> u32 {
+        self.not_formed[number]
+    }
+
     /// How often this fault came for a kind at a column.
     pub fn faults_at(&self, number: usize, kind: usize, column: usize) -> u32 {
         self.places[number][kind][column]
+    }
+}
+
+/// The tuned implementation hands a file over as soon as it finds it faulty,
+/// and what is answered then is not its own: so it is asked by itself whether a
+/// file is good.
+fn tuned_alone(file: &[u8], call: &str, found: Option<[u32; 14]>, fault: [u32; 3]) {
+    if found.is_some() != (fault[0] == 0) {
+        let found = found.is_some();
+        panic!(
+            "tuned {call}: good {found}, plain {fault:?}; {}",
+            keep(file)
+        );
     }
 }
 

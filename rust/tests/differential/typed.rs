@@ -1,28 +1,38 @@
 //! The library's answers as values say what its words say.
 
-use shelf::calls::{Calls, FileCalls, CHECK_WORDS, READ_WORDS};
-use shelf::library::{self, Fault, Library, TABLE_WORDS};
+use shelf::calls::{Calls, FileCalls, FORM_WORDS, READ_WORDS, REFERENCES_WORDS, REWRITE_WORDS};
+use shelf::library::{self, Fault, Library, Verdict, TABLE_WORDS};
 use shelf::plain::layout::long_texts;
 use shelf::{generate, sample};
 
+/// Form and references one by one, and then together what rewrite says.
 #[test]
-fn check_and_rewrite() {
+fn form_references_and_rewrite() {
     for seed in (0..2_000).filter(|seed| seed % 64 != 63) {
         let file = generate::case(seed);
-        let mut words = [0; CHECK_WORDS];
+        let mut words = [0; FORM_WORDS];
+        Library.form(&file, &mut words);
+        says(&library::form(&file), &words);
+        let mut words = [0; REFERENCES_WORDS];
+        Library.references(&file, &mut vec![0; TABLE_WORDS], &mut words);
+        is(library::references(&file), &words);
+        let mut words = [0; REWRITE_WORDS];
         let mut out = vec![0; file.len()];
         Library.rewrite(&file, &mut vec![0; TABLE_WORDS], &mut out, &mut words);
-        let verdict = library::check(&file);
-        let Fault {
-            number,
-            record,
-            column,
-        } = verdict.fault;
-        assert_eq!([number, record, column], words[..3]);
-        assert_eq!(verdict.counts, words[3..]);
-        assert_eq!(verdict.is_accepted(), words[0] == 0);
+        let verdict = library::judge(&file);
+        says(&verdict, &words);
         assert_eq!(library::rewrite(&file), (verdict, out));
     }
+}
+
+fn says(verdict: &Verdict, words: &[u32]) {
+    is(verdict.fault, &words[..3]);
+    assert_eq!(verdict.counts, words[3..]);
+    assert_eq!(verdict.is_accepted(), words[0] == 0);
+}
+
+fn is(fault: Fault, words: &[u32]) {
+    assert_eq!([fault.number, fault.record, fault.column], words);
 }
 
 #[test]

@@ -2,10 +2,10 @@
 //! tables it names: values and house style, both ends of each range with the
 //! value beside it, two stations that differ, stations that are defined.
 
-use crate::pointing::{check_says, named, refused, Place};
+use crate::pointing::{judged, named, refused, Place};
 use crate::pointing::{CORRELATIONS, DEVIATIONS, FACTORS};
 use crate::sample::*;
-use shelf::plain::{check, read, write, MISSING};
+use shelf::plain::{form, read, write, MISSING};
 
 /// The sample's *91* of station 345, its *92* from 12 to 345, its *93*.
 const NETWORK: usize = 21;
@@ -237,7 +237,7 @@ fn where_a_record_names_two_they_differ() {
     assert_eq!(refused(LOCAL, 17, "  1x"), [9, 22, 20]);
     assert_eq!(refused(LOCAL, 16, "x0012"), [9, 22, 16]);
     let both = with(&with(&file(), LOCAL, 17, "0012"), LOCAL, 23, "x");
-    assert_eq!(check_says(&both), [10, 22, 17]);
+    assert_eq!(judged(&both), [10, 22, 17]);
 }
 
 #[test]
@@ -286,7 +286,7 @@ fn a_station_and_a_pair_may_come_again() {
     lines.insert(24, local("0345", "  12"));
     lines.insert(24, local("  12", "0345"));
     assert_eq!(verdict(&lines.concat()), ACCEPTED);
-    let counts = check(&lines.concat(), &mut [0; 12_000]).counts;
+    let counts = form(&lines.concat()).counts;
     assert_eq!(counts[11..], [4, 3, 1]);
 }
 

@@ -3,7 +3,7 @@
 //! said another way: a field begins well when the numbers that begin so and
 //! the numbers of its range have one in common.
 
-use crate::pointing::{check_says, read_says};
+use crate::pointing::{self, read_says};
 use crate::sample::{file, line, with};
 use std::ops::RangeInclusive;
 
@@ -184,8 +184,8 @@ fn every_beginning(good: &[u8], rows: &[Row], &(first, last, _): &Row) {
     }
 }
 
-/// Check says what read says, and refuses what read cannot know of: a station
-/// that no *80* defines.
+/// Form says what read says, and references refuses what read cannot know of: a
+/// station that no *80* defines.
 #[test]
 fn every_character_of_good_records_in_their_file() {
     let mut undefined = 0;
@@ -194,21 +194,21 @@ fn every_character_of_good_records_in_their_file() {
         let file = with(&file(), record, 1, &columns);
         undefined += pairs(11..=80, ' '..='~')
             .map(|(column, character)| with(&file, record, column, &character.to_string()))
-            .filter(|changed| checked(changed, record, rows) == 12)
+            .filter(|changed| judged(changed, record, rows) == 12)
             .count();
     }
     assert!(undefined > 100, "{undefined}");
 }
 
-/// Check says what is expected of the file's only record that may be bad;
-/// gives its fault number.
-fn checked(file: &[u8], record: usize, rows: &[Row]) -> u32 {
+/// What is expected of the file's only record that may be bad is said; gives
+/// its fault number.
+fn judged(file: &[u8], record: usize, rows: &[Row]) -> u32 {
     let line = &file[81 * (record - 1)..81 * record];
     let fault = match expected(line, rows) {
         [0, ..] => reference(line, record as u32),
         [number, _, column] => [number, record as u32, column],
     };
-    assert_eq!(check_says(file), fault, "{}", line.escape_ascii());
+    assert_eq!(pointing::judged(file), fault, "{}", line.escape_ascii());
     fault[0]
 }
 

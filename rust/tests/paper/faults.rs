@@ -2,23 +2,22 @@
 
 use crate::sample::*;
 use shelf::generate;
-use shelf::plain::{check, rewrite, Checked, Fault};
+use shelf::plain::{form, references, rewrite, Checked, Fault};
 
 #[test]
 fn the_sample_is_accepted_with_its_counts_and_table() {
+    let accepted = Fault {
+        number: 0,
+        record: 0,
+        column: 0,
+    };
+    let formed = Checked {
+        fault: accepted,
+        counts: COUNTS,
+    };
+    assert_eq!(form(&file()), formed);
     let mut table = vec![9; 12_001];
-    let checked = check(&file(), &mut table);
-    assert_eq!(
-        checked,
-        Checked {
-            fault: Fault {
-                number: 0,
-                record: 0,
-                column: 0
-            },
-            counts: COUNTS
-        }
-    );
+    assert_eq!(references(&file(), &mut table), accepted);
     let mut expected = vec![0; 12_001];
     expected[12] = 19;
     expected[345] = 17;
@@ -44,7 +43,7 @@ fn fault_1_goes_by_lengths_and_touches_nothing() {
     let file = file();
     for bytes in [&file[..], b"", b"\xff"] {
         let mut short = vec![5; 11_999];
-        assert_eq!(check(bytes, &mut short), refused);
+        assert_eq!(references(bytes, &mut short), refused.fault);
         let mut out = vec![6; bytes.len()];
         assert_eq!(rewrite(bytes, &mut short, &mut out), refused);
         assert!(short.iter().all(|&word| word == 5));
@@ -503,12 +502,9 @@ fn fault_12_when_a_25_names_what_is_undefined() {
     assert_eq!(verdict(&both), (12, 5, 28));
     let two = with(&with(&file, 10, 28, "009"), 5, 33, "  9");
     assert_eq!(verdict(&two), (12, 5, 33));
-    let mut lines = lines();
-    lines[9] = occupation("0346");
-    lines[10] = measurement("0346");
-    lines[11] = measurement("0346");
-    assert_eq!(verdict(&lines.concat()), (12, 10, 11));
-    let three = with(&with(&lines.concat(), 10, 28, "009"), 10, 33, "  9");
+    let undefined = undefined_station();
+    assert_eq!(verdict(&undefined), (12, 10, 11));
+    let three = with(&with(&undefined, 10, 28, "009"), 10, 33, "  9");
     assert_eq!(verdict(&three), (12, 10, 11));
     // An instrument's number does not define an antenna, nor a station.
     assert_eq!(verdict(&with(&file, 5, 33, "  7")), (12, 5, 33));
@@ -517,10 +513,7 @@ fn fault_12_when_a_25_names_what_is_undefined() {
 
 #[test]
 fn fault_12_goes_before_11_by_its_record() {
-    let mut lines = lines();
-    lines.insert(20, point("0345"));
-    lines.insert(21, no_heights("0345"));
-    let repeated = lines.concat();
+    let repeated = repeated_station();
     assert_eq!(verdict(&with(&repeated, 10, 33, "005")), (12, 10, 33));
     // A station defined twice is defined for its *25*.
     assert_eq!(verdict(&repeated), (11, 21, 11));

@@ -2,9 +2,9 @@
 //! what the rule paper says of each, and here the plain implementation is
 //! asked.
 
-use crate::sample::{columns, house, verdict, ACCEPTED};
+use crate::sample::{columns, found, house, parts, verdict, Found, ACCEPTED};
 use shelf::files_tried::{self, folder};
-use shelf::plain::{check, pad, LINE, TABLE_WORDS};
+use shelf::plain::{form, pad, references, LINE, TABLE_WORDS};
 use shelf::specimens::{inputs, page, specimens};
 use std::collections::BTreeSet;
 use std::fs;
@@ -29,7 +29,7 @@ fn table(number: usize) -> Vec<Vec<String>> {
 }
 
 /// The rows of the table of whole files: name, fault number, record, column.
-fn rows() -> Vec<(String, (u32, u64, u64))> {
+fn rows() -> Vec<(String, Found)> {
     let row = |cells: Vec<String>| {
         let number = |cell: usize| cells[cell].parse().unwrap();
         let verdict = (number(1) as u32, number(2), number(3));
@@ -47,6 +47,26 @@ fn the_table_says_what_is_found() {
     }
 }
 
+/// Form answers 2 to 10 and accepts the others; references answers 14 to those
+/// that form refuses.
+#[test]
+fn the_table_says_what_each_call_finds() {
+    let mut seen = BTreeSet::new();
+    for (name, fault) in rows() {
+        let file = data(&name);
+        let formed = form(&file);
+        let referred = references(&file, &mut [77; TABLE_WORDS]);
+        let both = [formed.fault, referred].map(found);
+        assert_eq!(both, parts(fault), "{name}");
+        let is_counted = formed.counts.iter().any(|&count| count > 0);
+        assert_eq!(is_counted, both[0] == ACCEPTED, "{name}");
+        seen.insert(both.map(|(number, ..)| number));
+    }
+    let not_good = (3..=10).map(|number| [number, 14]);
+    let good = [0, 11, 12].map(|number| [0, number]);
+    assert!(seen.into_iter().eq(good.into_iter().chain(not_good)));
+}
+
 #[test]
 fn the_table_has_every_file_in_the_order_of_the_arguments() {
     let names: Vec<String> = rows().into_iter().map(|(name, _)| name).collect();
@@ -61,7 +81,8 @@ fn the_table_has_every_file_in_the_order_of_the_arguments() {
     assert_eq!(files, names.into_iter().chain(padded).collect());
 }
 
-/// The answer of the padding step, then check's verdict on the padded lines.
+/// The answer of the padding step, then what form and references say of the
+/// padded lines.
 #[test]
 fn the_table_of_inputs_says_what_is_found() {
     let rows = table(1);
@@ -81,11 +102,12 @@ fn the_table_of_inputs_says_what_is_found() {
         ];
         assert_eq!(cells[1..5], answer.map(|n| n.to_string()), "{cells:?}");
         if fault.number == 0 {
-            let (number, record, column) = verdict(lines);
-            let found = [number.into(), record, column].map(|n: u64| n.to_string());
-            assert_eq!(cells[5..8], found, "{cells:?}");
+            let [(number, record, column), referred] = parts(verdict(lines));
+            let said = [number.into(), record, column, referred.0.into()];
+            assert_eq!(cells[5..9], said.map(|n: u64| n.to_string()), "{cells:?}");
+            assert_eq!((referred.1, referred.2), (0, 0), "{cells:?}");
         } else {
-            assert_eq!(cells[5..8], ["-"; 3], "{cells:?}");
+            assert_eq!(cells[5..9], ["-"; 4], "{cells:?}");
         }
     }
 }
@@ -166,8 +188,9 @@ fn an_instrument_is_found_at_the_first_of_its_records() {
         ("accepted_70_a_thousand", 1_000, &[(7, 7), (8, 407)]),
     ] {
         let mut table = [0; TABLE_WORDS];
-        let checked = check(&data(&format!("{name}.bfile")), &mut table);
-        assert_eq!(checked.counts[7], count, "{name}");
+        let file = data(&format!("{name}.bfile"));
+        assert_eq!(references(&file, &mut table).number, 0, "{name}");
+        assert_eq!(form(&file).counts[7], count, "{name}");
         let words = (0..1_000).map(|number| (number, table[10_000 + number]));
         let found: Vec<(usize, u32)> = words.filter(|&(_, word)| word != 0).collect();
         assert_eq!(found, expected, "{name}");
@@ -222,11 +245,11 @@ fn the_same_meaning_is_the_same_file() {
 #[test]
 fn the_counts_are_those_of_the_records() {
     let file = data("accepted_all_kinds.bfile");
-    let counts = check(&file, &mut [0; TABLE_WORDS]).counts;
+    let counts = form(&file).counts;
     assert_eq!(counts, [2, 1, 1, 1, 3, 3, 7, 3, 2, 3, 3, 2, 1, 1]);
     let long = data("accepted_two_thousand_records.bfile");
     assert_eq!(verdict(&long), ACCEPTED);
-    let counts = check(&long, &mut [0; TABLE_WORDS]).counts;
+    let counts = form(&long).counts;
     assert_eq!(
         counts,
         [2, 1, 0, 1, 300, 300, 700, 20, 10, 300, 300, 90, 0, 1]

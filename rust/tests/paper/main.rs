@@ -18,4 +18,5 @@ mod sample;
 mod sheet;
 mod slips;
 mod structure;
+mod two_calls;
 mod writing;

@@ -1,13 +1,11 @@
 //! The padding step, sentence by sentence, of the plain implementation and of
 //! the library.
 
+use crate::pointing::{judged, SIDES};
 use crate::sample::*;
-use shelf::calls::{Calls, CHECK_WORDS, PAD_WORDS};
+use shelf::calls::{PAD_WORDS, REWRITE_WORDS};
 use shelf::generate;
-use shelf::library::{self, Fault, Library, Padding};
-use shelf::plain::Plain;
-
-const SIDES: [(&str, &dyn Calls); 2] = [("plain", &Plain), ("library", &Library)];
+use shelf::library::{self, Fault, Padding};
 
 /// What stands in an output before a call.
 const BEFORE: u8 = b'#';
@@ -63,15 +61,6 @@ fn refused(input: impl AsRef<[u8]>, [number, record, column]: [u32; 3]) {
     assert_eq!(given, b"");
 }
 
-/// Both check a file with this fault.
-fn check_says(file: &[u8], fault: [u32; 3]) {
-    for (name, side) in SIDES {
-        let mut answer = [99; CHECK_WORDS];
-        side.check(file, &mut [0; 12_000], &mut answer);
-        assert_eq!(answer[..3], fault, "{name}");
-    }
-}
-
 #[test]
 fn one_line_byte_by_byte() {
     let padded =
@@ -102,33 +91,33 @@ fn a_line_feed_at_the_end_opens_no_further_line() {
 }
 
 #[test]
-fn an_end_alone_is_a_blank_line_that_check_refuses() {
+fn an_end_alone_is_a_blank_line_that_form_refuses() {
     let blank = [&[b' '; 80][..], b"\n"].concat();
     for input in [&b"\n"[..], b"\r\n", b" ", b" \n", b"  \r\n"] {
         pads_to(input, &blank);
     }
     pads(b"\n\r\n\n", &["", "", ""]);
     pads(b"\r\nA\n\n", &["", "A", ""]);
-    check_says(&blank, [6, 1, 7]);
+    assert_eq!(judged(&blank), [6, 1, 7]);
     let after_one = [b"000010*A1*\n", &b"\n"[..]].concat();
-    check_says(&library::pad(&after_one).1, [6, 2, 7]);
+    assert_eq!(judged(&library::pad(&after_one).1), [6, 2, 7]);
 }
 
 #[test]
 fn an_empty_input_pads_to_an_empty_file() {
     pads(b"", &[]);
-    check_says(&library::pad(b"").1, [8, 1, 1]);
+    assert_eq!(judged(&library::pad(b"").1), [8, 1, 1]);
 }
 
 #[test]
-fn a_carriage_return_anywhere_else_is_copied_and_check_refuses_it() {
+fn a_carriage_return_anywhere_else_is_copied_and_form_refuses_it() {
     pads(b"\rA\n", &["\rA"]);
     pads(b"A\rB\r\n", &["A\rB"]);
     pads(b"A\n\rB\n", &["A", "\rB"]);
     pads(b"A\r\r\nB", &["A\r", "B"]);
     pads(b"\r\r\r\n", &["\r\r"]);
-    check_says(&library::pad(b"000010*A1*\rB\n").1, [4, 1, 11]);
-    check_says(&library::pad(b"000010*A1*\r\r\n").1, [4, 1, 11]);
+    assert_eq!(judged(&library::pad(b"000010*A1*\rB\n").1), [4, 1, 11]);
+    assert_eq!(judged(&library::pad(b"000010*A1*\r\r\n").1), [4, 1, 11]);
 }
 
 #[test]
@@ -137,7 +126,7 @@ fn a_carriage_return_at_the_end_of_the_input_is_of_the_line() {
     pads(b"A\r", &["A\r"]);
     pads(b"A\r\n\r", &["A", "\r"]);
     pads(b"A\r\r", &["A\r\r"]);
-    check_says(&library::pad(b"000010*A1*\r").1, [4, 1, 11]);
+    assert_eq!(judged(&library::pad(b"000010*A1*\r").1), [4, 1, 11]);
 }
 
 #[test]
@@ -278,7 +267,7 @@ fn an_answer_too_short_means_that_nothing_is_touched() {
 
 #[test]
 fn an_accepted_file_comes_out_unchanged() {
-    check_says(&file(), [0, 0, 0]);
+    assert_eq!(judged(&file()), [0, 0, 0]);
     pads_to(file(), file());
 }
 
@@ -289,13 +278,13 @@ fn a_stripped_file_is_judged_as_the_file_that_it_was() {
     for end in ["\n", "\r\n"] {
         let input = generate::stripped(&file(), end);
         // The first line has 28 bytes without its blanks.
-        check_says(&input, [4, 1, 29]);
+        assert_eq!(judged(&input), [4, 1, 29]);
         pads_to(&input, file());
         pads_to(&input[..input.len() - end.len()], file());
         for (name, side) in SIDES {
             let padded = library::pad(&input).1;
             let mut out = vec![BEFORE; padded.len()];
-            let mut answer = [99; CHECK_WORDS];
+            let mut answer = [99; REWRITE_WORDS];
             side.rewrite(&padded, &mut [0; 12_000], &mut out, &mut answer);
             assert_eq!(answer[..3], [0, 0, 0], "{name}");
             assert_eq!(answer[3..], COUNTS, "{name}");

@@ -3,12 +3,14 @@
 //! plain implementation and of the library.
 
 use crate::sample::*;
-use shelf::calls::{Calls, CHECK_WORDS, KIND_WORD, READ_WORDS, WRITE_WORDS};
+use shelf::calls::{
+    Calls, FORM_WORDS, KIND_WORD, READ_WORDS, REFERENCES_WORDS, REWRITE_WORDS, WRITE_WORDS,
+};
 use shelf::library::Library;
 use shelf::plain::layout::long_texts;
 use shelf::plain::{sheet, Plain, MISSING};
 
-const SIDES: [(&str, &dyn Calls); 2] = [("plain", &Plain), ("library", &Library)];
+pub const SIDES: [(&str, &dyn Calls); 2] = [("plain", &Plain), ("library", &Library)];
 
 /// A record of the sample with the first and last column of a field.
 pub type Place = (usize, usize, usize);
@@ -139,27 +141,33 @@ pub fn read_says(file: &[u8], record: u32) -> [u32; 3] {
     plain
 }
 
-/// Number, record and column of check and of rewrite, which both sides give.
-pub fn check_says(file: &[u8]) -> [u32; 3] {
-    let (number, record, column) = verdict(file);
-    let expected = [number, record as u32, column as u32];
+/// Number, record and column of a file's first fault, of which both sides say
+/// their parts.
+pub fn judged(file: &[u8]) -> [u32; 3] {
+    let first = verdict(file);
+    let words = |(number, record, column): Found| [number, record as u32, column as u32];
+    let [form, references] = parts(first).map(words);
+    let mut table = [0; 12_000];
     for (name, side) in SIDES {
-        let mut answer = [99; CHECK_WORDS];
-        side.check(file, &mut [0; 12_000], &mut answer);
-        assert_eq!(answer[..3], expected, "check of {name}");
-        let mut answer = [99; CHECK_WORDS];
+        let mut answer = [99; FORM_WORDS];
+        side.form(file, &mut answer);
+        assert_eq!(answer[..3], form, "form of {name}");
+        let mut answer = [99; REFERENCES_WORDS];
+        side.references(file, &mut table, &mut answer);
+        assert_eq!(answer, references, "references of {name}");
+        let mut answer = [99; REWRITE_WORDS];
         let mut out = vec![0; file.len()];
-        side.rewrite(file, &mut [0; 12_000], &mut out, &mut answer);
-        assert_eq!(answer[..3], expected, "rewrite of {name}");
+        side.rewrite(file, &mut table, &mut out, &mut answer);
+        assert_eq!(answer[..3], words(first), "rewrite of {name}");
     }
-    expected
+    words(first)
 }
 
-/// What check, rewrite, read and the sheet say of the sample with some columns
-/// of a record replaced.
+/// What form, references, rewrite, read and the sheet say of the sample with
+/// some columns of a record replaced.
 pub fn refused(record: usize, first: usize, text: &str) -> [u32; 3] {
     let file = with(&file(), record, first, text);
-    let fault = check_says(&file);
+    let fault = judged(&file);
     let about = format!("record {record} column {first} {text:?}");
     assert_eq!(read_says(&file, record as u32), fault, "{about}");
     let [number, at, column] = fault;
@@ -271,7 +279,7 @@ fn a_sequence_number_is_read_too() {
         named((record, 1, 6), &texts);
     }
     // Blank it is missing, which it may be.
-    assert_eq!(check_says(&with(&file(), 9, 1, "      ")), [0, 0, 0]);
+    assert_eq!(judged(&with(&file(), 9, 1, "      ")), [0, 0, 0]);
 }
 
 #[test]
@@ -458,7 +466,7 @@ fn a_media_identifier_is_named_by_its_parts() {
     ];
     named(MEDIA, &texts);
     for good in ["T366", "T001", "A0990Z    ", "Z30000~~~~"] {
-        assert_eq!(check_says(&with(&file(), 5, 15, good)), [0, 0, 0]);
+        assert_eq!(judged(&with(&file(), 5, 15, good)), [0, 0, 0]);
     }
 }
 
@@ -522,22 +530,22 @@ fn fault_9_keeps_its_place_in_the_order() {
     // From the left by field, not by the column that is named: a station bad
     // at its last column goes before an identifier bad at its first.
     let both = with(&with(&good, 5, 11, "0000"), 5, 15, " ");
-    assert_eq!(check_says(&both), [9, 5, 14]);
-    assert_eq!(check_says(&with(&both, 5, 1, "000000")), [9, 5, 6]);
+    assert_eq!(judged(&both), [9, 5, 14]);
+    assert_eq!(judged(&with(&both, 5, 1, "000000")), [9, 5, 6]);
     // After 6 and 7, which stay at column 7.
     let sequence = with(&good, 5, 1, "     x");
-    assert_eq!(check_says(&with(&sequence, 5, 7, "*13*")), [6, 5, 7]);
-    assert_eq!(check_says(&with(&sequence, 5, 7, "*86*")), [7, 5, 7]);
+    assert_eq!(judged(&with(&sequence, 5, 7, "*13*")), [6, 5, 7]);
+    assert_eq!(judged(&with(&sequence, 5, 7, "*86*")), [7, 5, 7]);
     assert_eq!(read_says(&with(&sequence, 5, 7, "*1**"), 5), [6, 5, 7]);
     // Before 10 in a field, after 10 in a field further left.
-    assert_eq!(check_says(&with(&good, 7, 11, "034x")), [9, 7, 14]);
+    assert_eq!(judged(&with(&good, 7, 11, "034x")), [9, 7, 14]);
     let both = with(&with(&good, 7, 11, "0345"), 7, 15, "19110x");
-    assert_eq!(check_says(&both), [10, 7, 11]);
+    assert_eq!(judged(&both), [10, 7, 11]);
     // Before 11, 12 and what is wrong with later records.
     let undefined = with(&good, 5, 28, "009");
-    assert_eq!(check_says(&with(&undefined, 20, 15, " x")), [9, 20, 16]);
+    assert_eq!(judged(&with(&undefined, 20, 15, " x")), [9, 20, 16]);
     let later = with(&with(&good, 7, 15, "      "), 8, 80, "\t");
-    assert_eq!(check_says(&later), [9, 7, 20]);
+    assert_eq!(judged(&later), [9, 7, 20]);
 }
 
 #[test]
@@ -552,7 +560,7 @@ fn fault_10_keeps_its_fields_first_column() {
         (22, 17, "  12"),
     ] {
         let file = with(&good, record, first, text);
-        assert_eq!(check_says(&file), [10, record as u32, first as u32]);
+        assert_eq!(judged(&file), [10, record as u32, first as u32]);
     }
     for (record, first, text) in [(18, 24, " "), (18, 27, " "), (20, 43, "6"), (20, 53, "B")] {
         assert_eq!(

@@ -26,8 +26,26 @@ fn every_column_to_try_is_in_the_list() {
 #[test]
 fn every_call_is_made() {
     let examples = examples();
-    for call in ["read", "field", "write", "check", "rewrite", "list"] {
+    for call in [
+        "read",
+        "field",
+        "write",
+        "form",
+        "references",
+        "rewrite",
+        "list",
+    ] {
         assert!(examples.iter().any(|one| one.call == call), "{call}");
+    }
+}
+
+/// Each fault that references can answer, but 1: the list lends it a table.
+#[test]
+fn every_answer_of_references_is_in_the_list() {
+    let examples = examples();
+    for should in ["accepted", "fault 11", "fault 12", "fault 14"] {
+        let mut named = examples.iter().filter(|one| one.call == "references");
+        assert!(named.any(|one| one.should.starts_with(should)), "{should}");
     }
 }
 

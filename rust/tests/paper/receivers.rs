@@ -4,7 +4,7 @@
 //! keep their rule."
 
 use crate::sample::*;
-use shelf::plain::{check, read};
+use shelf::plain::{form, read, references};
 
 /// The record of the first *70*.
 const FIRST: usize = 13;
@@ -42,7 +42,7 @@ fn with_values(numbers: &[u32]) -> Vec<u8> {
 /// The words of instruments that are not 0: number and record.
 fn words(file: &[u8]) -> Vec<(usize, u32)> {
     let mut table = vec![77; 12_000];
-    assert_eq!(check(file, &mut table).fault.number, 0);
+    assert_eq!(references(file, &mut table).number, 0);
     let words = (0..1_000).map(|number| (number, table[10_000 + number]));
     words.filter(|&(_, word)| word != 0).collect()
 }
@@ -120,7 +120,7 @@ fn the_table_word_is_the_first_of_several() {
     assert_eq!(words(&with_numbers(&runs)), [(1, 13), (7, 15), (999, 18)]);
     // What stands behind has moved on by a record for each *70*.
     let mut table = vec![0; 12_000];
-    check(&with_numbers(&runs), &mut table);
+    references(&with_numbers(&runs), &mut table);
     assert_eq!((table[11_003], table[345], table[12]), (20, 22, 24));
 }
 
@@ -175,7 +175,7 @@ fn every_record_is_counted() {
     for copies in [1, 2, 3, 50, 999, 1_000, 5_000] {
         let file = with_numbers(&vec!["007"; copies]);
         assert_eq!(verdict(&file), ACCEPTED);
-        let counts = check(&file, &mut vec![0; 12_000]).counts;
+        let counts = form(&file).counts;
         let mut expected = COUNTS;
         expected[7] = copies as u32;
         assert_eq!(counts, expected);

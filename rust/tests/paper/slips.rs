@@ -1,13 +1,12 @@
 //! The slips the paper has seen.
 
 use crate::sample::*;
-use shelf::plain::{check, read, MISSING};
+use shelf::plain::{form, read, references, MISSING};
 
 #[test]
 fn a_blank_comment_is_a_record_all_the_same() {
     let file = with(&file(), 6, 11, &" ".repeat(70));
-    let checked = check(&file, &mut vec![0; 12_000]);
-    assert_eq!(checked.counts, COUNTS);
+    assert_eq!(form(&file).counts, COUNTS);
     assert_eq!(read(&file, 6).unwrap().kind, 5);
     assert_eq!(columns(&house(&file), 6, 1, 10), "000060*26*");
     // A bad character in it would not be passed over either.
@@ -40,17 +39,13 @@ fn half_a_metre_below_keeps_its_sign() {
 fn a_25_may_name_a_station_defined_later() {
     // Records 5 and 10 name stations 12 and 345 of records 19 and 17.
     let mut table = vec![0; 12_000];
-    assert_eq!(check(&file(), &mut table).fault.number, 0);
+    assert_eq!(references(&file(), &mut table).number, 0);
     assert_eq!((table[12], table[345]), (19, 17));
 }
 
 #[test]
 fn an_undefined_station_waits_for_the_malformed_record() {
-    let mut lines = lines();
-    lines[9] = occupation("0346");
-    lines[10] = measurement("0346");
-    lines[11] = measurement("0346");
-    let undefined = lines.concat();
+    let undefined = undefined_station();
     assert_eq!(verdict(&undefined), (12, 10, 11));
     let malformed = with(&undefined, 20, 15, "x");
     assert_eq!(verdict(&malformed), (9, 20, 15));

@@ -41,9 +41,6 @@ fn a_refused_file_with_a_caret_under_the_column() {
 fn every_fault_in_words() {
     let desk = Desk::new("faults");
     let good = sample::file();
-    let mut repeated = sample::lines();
-    repeated.insert(20, sample::point("0345"));
-    repeated.insert(21, sample::no_heights("0345"));
     let long = generate::accepted(2, 100_000);
     for (file, said, caret) in [
         (
@@ -108,7 +105,7 @@ fn every_fault_in_words() {
             Some(24),
         ),
         (
-            repeated.concat(),
+            sample::repeated_station(),
             "an *80* repeats a station number: station 0345",
             Some(11),
         ),
@@ -256,6 +253,12 @@ fn quiet_says_only_what_was_refused() {
     assert!(ran.out.starts_with("bad.b: refused, fault 3"));
 }
 
+/// The counts of the sample, and those of a refused file, as JSON has them.
+pub const COUNTED: &str = "\"AA\":2,\"10\":1,\"11\":1,\"12\":1,\"25\":2,\"26\":1,\"27\":5,\
+                           \"70\":2,\"72\":2,\"80\":2,\"86\":2,\"91\":1,\"92\":1,\"93\":1";
+pub const NOT_COUNTED: &str = "\"AA\":0,\"10\":0,\"11\":0,\"12\":0,\"25\":0,\"26\":0,\"27\":0,\
+                               \"70\":0,\"72\":0,\"80\":0,\"86\":0,\"91\":0,\"92\":0,\"93\":0";
+
 /// The shape that the README documents.
 #[test]
 fn one_json_object_for_each_file() {
@@ -265,15 +268,11 @@ fn one_json_object_for_each_file() {
     let ran = desk
         .run(&["check", "--json", "good.b", "b\"ad.b", "none.b"])
         .ended(2);
-    let kinds = "\"AA\":2,\"10\":1,\"11\":1,\"12\":1,\"25\":2,\"26\":1,\"27\":5,\"70\":2,\
-                 \"72\":2,\"80\":2,\"86\":2,\"91\":1,\"92\":1,\"93\":1";
-    let none = "\"AA\":0,\"10\":0,\"11\":0,\"12\":0,\"25\":0,\"26\":0,\"27\":0,\"70\":0,\
-                \"72\":0,\"80\":0,\"86\":0,\"91\":0,\"92\":0,\"93\":0";
     let expected = format!(
         "{{\"name\":\"good.b\",\"number\":0,\"record\":0,\"column\":0,\"records\":24,\
-         \"counts\":{{{kinds}}},\"text\":\"accepted\"}}\n\
+         \"counts\":{{{COUNTED}}},\"text\":\"accepted\"}}\n\
          {{\"name\":\"b\\\"ad.b\",\"number\":10,\"record\":18,\"column\":24,\"records\":24,\
-         \"counts\":{{{none}}},\"text\":\"a field well formed that disagrees with an earlier \
+         \"counts\":{{{NOT_COUNTED}}},\"text\":\"a field well formed that disagrees with an earlier \
          one: orthometric height code in column 24 must be blank exactly when its height is \
          missing\"}}\n\
          {{\"name\":\"none.b\",\"error\":\"there is no such file or folder\"}}\n"

@@ -47,7 +47,7 @@ fn a_row_for_each_file_and_totals_at_the_end() {
     ];
     assert_eq!(names, [files, totals].concat());
 
-    let counts = plain::check(&good, &mut vec![0; 12_000]).counts;
+    let counts = plain::form(&good).counts;
     let counts = counts.map(|count| count.to_string());
     assert_eq!(rows[1][1..3], ["60", "60"]);
     assert_eq!(rows[1][3..17], counts);

@@ -4,6 +4,7 @@ mod accuracies;
 mod check;
 mod deposits;
 mod desk;
+mod form;
 mod held;
 mod interrupted;
 mod killed;

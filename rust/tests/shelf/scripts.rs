@@ -269,6 +269,8 @@ fn what_bash_offers() {
         ),
         ("move --d", "--dry-run"),
         ("check --j", "--json"),
+        ("check --fo", "--form"),
+        ("rewrite --fo", ""),
         ("rewrite --p", "--pad"),
         ("sheet --re", ""),
         ("help re", "rewrite"),

@@ -46,6 +46,14 @@ fn wrong_words_end_with_2_and_say_what_is_wrong() {
         (&["check", "--quickly", "a"], "there is no option --quickly"),
         (&["check", "--json=yes", "a"], "--json takes no value"),
         (&["check", "-0", "a"], "-0 goes with --files-from"),
+        (&["check", "--form"], "check needs at least one file"),
+        (&["check", "--form=yes", "a"], "--form takes no value"),
+        (&["sheet", "a", "--form"], "sheet takes no --form"),
+        (&["rewrite", "a", "b", "--form"], "rewrite takes no --form"),
+        (
+            &["move", "a", "b", "--ledger", "c", "--form"],
+            "move takes no --form",
+        ),
         (&["move", "a", "b", "--ledger="], "--ledger needs a file"),
         (&["sheet", "a", "--json"], "sheet takes no --json"),
         (&["help", "check", "move"], "help takes one command"),
@@ -77,6 +85,7 @@ fn help_on_each_command() {
     for (verb, option) in [
         ("check", "--files-from FILE"),
         ("check", "--pad "),
+        ("check", "--form "),
         ("sheet", "--pad "),
         ("show", "--pad "),
         ("pad", "--replace"),

@@ -1,4 +1,4 @@
-use Rattle.walk.proofs.CheckLaws.{settle-bad, settle-good}
+use Rattle.walk.proofs.JudgeLaws.{settle-bad, settle-good}
 use borrow.Author.Needs.{needs}
 use Rattle.walk.proofs.settle.Statement.{statement}
 use Rattle.walk.proofs.settle.Tie as tie

@@ -48,7 +48,10 @@ pub const VERBS: [Verb; 7] = [
         name: "check",
         operands: "FILE..",
         what: "judge files: accepted, or the first fault",
-        more: "Of a folder every file below it is judged; links are not followed.\n",
+        more: "Of a folder every file below it is judged; links are not followed. With --form\n\
+               an evening's file can be tested before the station numbers are agreed: whether\n\
+               the numbers that it names are defined, and stations only once, is not judged,\n\
+               and that is said of each file whose form is accepted.\n",
         choices: &[
             with_file(
                 "--files-from",
@@ -58,6 +61,7 @@ pub const VERBS: [Verb; 7] = [
                 "-0",
                 "in that FILE a zero byte ends each name, not a line feed",
             ),
+            flag("--form", "judge form and order only, not the references"),
             PAD,
             flag("--json", "one JSON object for each file, a line each"),
             flag("--quiet", "say nothing of accepted files"),
@@ -141,6 +145,8 @@ pub struct Check {
     pub files: Vec<PathBuf>,
     pub files_from: Option<PathBuf>,
     pub zero_ends: bool,
+    /// Form and order only.
+    pub form: bool,
     pub pad: bool,
     pub json: bool,
     pub quiet: bool,
@@ -270,8 +276,8 @@ fn check(files: Vec<PathBuf>, words: &Words) -> Result<Command, Trouble> {
     if files.is_empty() && files_from.is_none() {
         return Err(Trouble::usage("check needs at least one file"));
     }
-    let asked = ["-0", PAD.name, "--json", QUIET.name];
-    let [zero_ends, pad, json, quiet] = asked.map(|name| words.has(name));
+    let asked = ["-0", "--form", PAD.name, "--json", QUIET.name];
+    let [zero_ends, form, pad, json, quiet] = asked.map(|name| words.has(name));
     if zero_ends && files_from.is_none() {
         return Err(Trouble::usage("-0 goes with --files-from"));
     }
@@ -279,6 +285,7 @@ fn check(files: Vec<PathBuf>, words: &Words) -> Result<Command, Trouble> {
         files,
         files_from,
         zero_ends,
+        form,
         pad,
         json,
         quiet,

@@ -8,10 +8,37 @@ use crate::status::Status;
 use crate::trouble::Trouble;
 use crate::walk::{self, Sort};
 use crate::{json, names, report};
+use shelf::library::{Fault, Verdict};
 use std::ffi::OsStr;
 use std::io::{self, Read, Write};
 use std::os::unix::ffi::OsStrExt;
 use std::path::{Path, PathBuf};
+
+/// How much of a file is judged, and what is said of one that is good.
+pub struct Extent {
+    judge: fn(&[u8]) -> Result<Verdict, Fault>,
+    pub accepted: &'static str,
+    /// What a refused one would be with its lines filled.
+    would_be: &'static str,
+    /// What became of the references, where that has to be said.
+    pub references: Option<&'static str>,
+}
+
+const WHOLE: Extent = Extent {
+    judge: deposit::judged,
+    accepted: "accepted",
+    would_be: report::ACCEPTED,
+    references: None,
+};
+
+/// Nobody is to take this for acceptance: a file may still name stations that
+/// it does not define.
+const FORM: Extent = Extent {
+    judge: deposit::formed,
+    accepted: "form accepted, references not judged",
+    would_be: "its form would be accepted",
+    references: Some("not judged"),
+};
 
 /// Judges each file and goes on after one that cannot be read.
 pub fn run(order: &Check, out: &mut dyn Write) -> Result<Status, Trouble> {
@@ -21,6 +48,7 @@ pub fn run(order: &Check, out: &mut dyn Write) -> Result<Status, Trouble> {
     };
     let mut desk = Desk {
         order,
+        extent: if order.form { &FORM } else { &WHOLE },
         out,
         worst: Status::Accepted,
     };
@@ -47,6 +75,7 @@ fn names_in(list: &Path, zero_ends: bool) -> Result<Vec<PathBuf>, Trouble> {
 
 struct Desk<'a> {
     order: &'a Check,
+    extent: &'static Extent,
     out: &'a mut dyn Write,
     worst: Status,
 }
@@ -81,16 +110,21 @@ impl Desk<'_> {
             Ok(deposit) => deposit,
             Err(trouble) => return self.not_judged(path, &trouble, Status::Trouble),
         };
-        let judged = deposit.ask(deposit::checked);
+        let extent = self.extent;
+        let judged = deposit.ask(extent.judge);
         if judged.is_err() {
             self.worst = self.worst.max(Status::Refused);
         } else if self.order.quiet {
             return Ok(());
         }
         match (&judged, self.order.json) {
-            (_, true) => json::verdict(self.out, path, &deposit, &judged),
-            (Ok(verdict), false) => report::accepted(self.out, path, &verdict.counts),
-            (Err(refusal), false) => report::refused_file(self.out, path, &deposit, refusal),
+            (_, true) => json::verdict(self.out, path, &deposit, extent, &judged),
+            (Ok(verdict), false) => {
+                report::accepted(self.out, path, extent.accepted, &verdict.counts)
+            }
+            (Err(refusal), false) => {
+                report::refused_file(self.out, path, &deposit, refusal, extent.would_be)
+            }
         }
         .map_err(Trouble::standard_output)
     }

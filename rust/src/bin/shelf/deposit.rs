@@ -100,8 +100,16 @@ impl Deposit {
 }
 
 /// The verdict on an accepted file.
-pub fn checked(file: &[u8]) -> Result<Verdict, Fault> {
-    let verdict = library::check(file);
+pub fn judged(file: &[u8]) -> Result<Verdict, Fault> {
+    accepted(library::judge(file))
+}
+
+/// The verdict on a file whose form is good.
+pub fn formed(file: &[u8]) -> Result<Verdict, Fault> {
+    accepted(library::form(file))
+}
+
+fn accepted(verdict: Verdict) -> Result<Verdict, Fault> {
     match verdict.is_accepted() {
         true => Ok(verdict),
         false => Err(verdict.fault),
@@ -111,8 +119,5 @@ pub fn checked(file: &[u8]) -> Result<Verdict, Fault> {
 /// The verdict on an accepted file, and its house style.
 pub fn rewritten(file: &[u8]) -> Result<(Verdict, Vec<u8>), Fault> {
     let (verdict, house) = library::rewrite(file);
-    match verdict.is_accepted() {
-        true => Ok((verdict, house)),
-        false => Err(verdict.fault),
-    }
+    Ok((accepted(verdict)?, house))
 }

@@ -107,7 +107,7 @@ mod tests {
 
     #[test]
     fn the_house_style_passes_and_every_change_of_it_is_seen() {
-        let good = library::check(&sample::file());
+        let good = library::judge(&sample::file());
         assert_eq!(verdict_on(1, 1, "000010"), Ok(good));
         for (record, first, text) in [
             // A sequence number, a padded number, a height, an angle, a

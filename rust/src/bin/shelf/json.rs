@@ -1,6 +1,7 @@
 //! `shelf check --json`: one object for each file, a line each.
 
-use crate::deposit::{Deposit, Refusal};
+use crate::check::Extent;
+use crate::deposit::{Deposit, Padding, Refusal};
 use crate::{names, report};
 use shelf::library::{Verdict, KINDS};
 use std::fmt::Write as _;
@@ -9,17 +10,18 @@ use std::path::Path;
 
 /// A file that was judged: name, number, record and column, records, the
 /// counts of an accepted one, the fault in words, and what there is to say of
-/// padding.
+/// references and of padding.
 pub fn verdict(
     out: &mut dyn Write,
     path: &Path,
     deposit: &Deposit,
+    extent: &Extent,
     judged: &Result<Verdict, Refusal>,
 ) -> io::Result<()> {
     let name = quoted(&names::shown(path));
     let (fault, counts, text, padding) = match judged {
         Ok(verdict) => {
-            let text = "accepted".to_string();
+            let text = extent.accepted.to_string();
             (verdict.fault, verdict.counts, text, deposit.padding)
         }
         Err(refusal) => {
@@ -32,13 +34,12 @@ pub fn verdict(
         .zip(counts)
         .map(|(code, count)| format!("{}:{count}", quoted(code)))
         .collect();
-    let padding = padding.map_or(String::new(), |padding| {
-        format!(",\"padding\":{}", quoted(padding.in_words()))
-    });
+    let references = member("references", extent.references);
+    let padding = member("padding", padding.map(Padding::in_words));
     writeln!(
         out,
         "{{\"name\":{name},\"number\":{},\"record\":{},\"column\":{},\"records\":{},\
-         \"counts\":{{{}}},\"text\":{}{padding}}}",
+         \"counts\":{{{}}},\"text\":{}{references}{padding}}}",
         fault.number,
         fault.record,
         fault.column,
@@ -46,6 +47,13 @@ pub fn verdict(
         counts.join(","),
         quoted(&text)
     )
+}
+
+/// A member behind others, if there is something to say.
+fn member(name: &str, text: Option<&str>) -> String {
+    text.map_or(String::new(), |text| {
+        format!(",{}:{}", quoted(name), quoted(text))
+    })
 }
 
 /// A file that could not be judged, and why.

@@ -65,7 +65,8 @@ fn refused(
         true => &mut error_output,
         false => out,
     };
-    report::refused_file(out, &order.from, deposit, refusal).map_err(Trouble::standard_output)?;
+    report::refused_file(out, &order.from, deposit, refusal, report::ACCEPTED)
+        .map_err(Trouble::standard_output)?;
     Ok(Status::Refused)
 }
 

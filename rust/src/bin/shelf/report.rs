@@ -8,7 +8,7 @@ use std::io::{self, Write};
 use std::path::Path;
 
 /// What each fault number means.
-const MEANINGS: [&str; 14] = [
+const MEANINGS: [&str; 15] = [
     "accepted",
     "more than is taken",
     "a record 100,000 has begun",
@@ -23,6 +23,7 @@ const MEANINGS: [&str; 14] = [
     "an *80* repeats a station number",
     "a *25*, *91* or *92* names an undefined number",
     "there is no such record",
+    "the form is not good",
 ];
 
 /// What padding would do for a whole file.
@@ -54,9 +55,15 @@ pub fn headline(refusal: &Refusal) -> String {
     format!("refused{by}, fault {number}, {place} {record}, column {column}")
 }
 
-pub fn accepted(out: &mut dyn Write, path: &Path, counts: &[u32; 14]) -> io::Result<()> {
+/// What is said of a good file, and how many records of each kind it has.
+pub fn accepted(
+    out: &mut dyn Write,
+    path: &Path,
+    what: &str,
+    counts: &[u32; 14],
+) -> io::Result<()> {
     let records: u32 = counts.iter().sum();
-    write!(out, "{}: accepted, {records} records:", names::shown(path))?;
+    write!(out, "{}: {what}, {records} records:", names::shown(path))?;
     for (code, count) in KINDS.iter().zip(counts) {
         if *count > 0 {
             write!(out, " {code} {count}")?;
@@ -71,9 +78,10 @@ pub fn refused_file(
     path: &Path,
     deposit: &Deposit,
     refusal: &Refusal,
+    then: &str,
 ) -> io::Result<()> {
     refused(out, path, deposit, refusal)?;
-    advise(out, refusal, ACCEPTED)
+    advise(out, refusal, then)
 }
 
 /// A refusal: number, record and column, what it means, and the record.

@@ -42,7 +42,7 @@ fn judged(file: &[u8]) -> Result<Verdict, Fault> {
     if file.len() > MOST {
         return Err(TOO_LARGE);
     }
-    deposit::checked(file)
+    deposit::judged(file)
 }
 
 fn listed(out: &mut dyn Write, deposit: &Deposit, verdict: &Verdict) -> io::Result<()> {

@@ -5,12 +5,12 @@ use native.Mathlib.Omega.{arith}
 use mathlib.Core.Path.{_≡_}
 use lib.ListN.{length}
 use Rattle.rules.specs.Chapter4.{ordered}
-use Rattle.walk.proofs.WalkLaws.{Going, go-from, go-fault, go-known, go-next, go-short, go-good}
+use Rattle.walk.proofs.WalkLaws.{Going, no-longer, go-from, go-fault, go-known, go-next, go-short, go-good}
 use Rattle.walk.proofs.records.walk_records.Statement.{statement}
 use Rattle.walk.proofs.records.walk_records.Tie as tie
 
 abbrev Inv-loop : tie.InvT-loop
-Inv-loop file words₀ rows last classes n s₀ counts₀ i₀ words s counts i = (length words ≡ length words₀) × Going (ordered rows last) file n words s counts i
+Inv-loop file words₀ rows last classes n s₀ counts₀ i₀ words s counts i = (length words ≡ length words₀) × Going (ordered rows last) file n words₀ words s counts i
 
 abbrev μ-loop : tie.MeasureT-loop
 μ-loop file words₀ rows last classes n s₀ counts₀ i₀ words s counts i = n - i
@@ -39,6 +39,9 @@ mul-counts-2 c = omega (arith, known c)
 
 array-write-counts : tie.Need-array-write-counts Inv-loop μ-loop
 array-write-counts c = search (go-known, needs)
+
+mark-record-requires : tie.Need-mark-record-requires Inv-loop μ-loop
+mark-record-requires c κs = search (no-longer, needs)
 
 loop-again : tie.Need-loop-again Inv-loop μ-loop
 loop-again c = search (go-next, needs)
@@ -74,7 +77,7 @@ walk-records-spec =
     array-write-counts
     (λ c. search needs)
     (λ c. search needs)
-    (λ c κs. search needs)
+    mark-record-requires
     (λ c. search needs)
     (λ c. search needs)
     loop-again
