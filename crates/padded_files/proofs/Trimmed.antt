@@ -24,6 +24,6 @@ module _ {f g : List ℕ} (x : Padding f) (y : Padding g) where
     (λ o. padded-part-is x ∙ same-padded .1 o ∙ sym (padded-part-is y)),
   )
 
-  -- and then check and rewrite answer the same
+  -- and then form, references and rewrite answer the same
   pub trimmed-answers : OnlyTrimmed f g → SameAnswers x y
   trimmed-answers o = same-answers x y (same-padded .1 o)

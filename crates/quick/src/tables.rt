@@ -93,7 +93,7 @@ const LOCAL: [[u8; 80]; 5] = [
     *b"     ~~~~~   ~~~   ~~~         ~         ~         ~         ~~~~~~~~~~~~~~~~~~~",
 ];
 
-// The kinds in their order. `check` lends them once for a whole file: where a constant array is indexed, it is written to the stack.
+// The kinds in their order. The call lends them once for a whole file: where a constant array is indexed, it is written to the stack.
 pub const CLASSES: [[[u8; 80]; 5]; 14] = [
     TEXT, // a job code
     TEXT, // *10*

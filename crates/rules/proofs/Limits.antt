@@ -9,10 +9,10 @@ use Rattle.rules.specs.Tests.{within, _&_, _≤?_, _=?_}
 use Rattle.rules.specs.Items.{Value}
 use Rattle.rules.specs.Fields.{ok, fault, _⨾_, check, isOk}
 use Rattle.rules.specs.Records.{Meaning, readLine, judgeGiven, lineOf}
-use Rattle.rules.specs.Files.{accept, refuse, isAccept, lineAt, begun, meanings, walk, verdict, rewritten}
+use Rattle.rules.specs.Files.{accept, refuse, isAccept, andThen, lineAt, begun, meanings, walk, formVerdict, verdict, rewritten}
 use Rattle.rules.specs.References.{words, counts}
 use Rattle.rules.specs.Chapter4.{atStart, chapter4}
-use Rattle.rules.specs.Calls.{Answer, outcome, bigTable, bigOutput, answer, tableLeft, outputLeft, fileAnswer, referencesTable, rewriteRoom, rewriteAnswer, rewriteTable, rewriteOutput, unread, readAs, readOf, isRead, widthAsked, fieldOffset, fieldOf, writeVerdict, writeOutput}
+use Rattle.rules.specs.Calls.{Answer, outcome, bigTable, bigOutput, answer, tableLeft, outputLeft, referencesOutcome, referencesAnswer, referencesTable, fileAnswer, rewriteRoom, rewriteAnswer, rewriteTable, rewriteOutput, unread, readAs, readOf, isRead, widthAsked, fieldOffset, fieldOf, writeVerdict, writeOutput}
 use Rattle.rules.specs.Sheet.{tabbed, fileLine, listed, sheet}
 use Rattle.rules.specs.Digits.{stripped, numeral}
 use Rattle.rules.proofs.Truth.{and, of≤, of>, and-false}
@@ -50,6 +50,19 @@ module _ (f table : List ℕ) where
       × (referencesTable f table ≡ words (meanings chapter4 f) ++ drop 12_000 table)
   unfolding fileAnswer referencesTable outcome tableLeft answer isAccept
   taken-file h e = (rw (enough-table h, e), rw (enough-table h, e))
+
+-- ---- references, 02, T-05
+module _ (f table : List ℕ) where
+  -- 1: a table below 12,000 words, whatever the form is; nothing is touched
+  pub short-references : length table < 12_000 → (referencesAnswer f table ≡ refuse 1 0 0) × (referencesTable f table ≡ table)
+  unfolding referencesAnswer referencesOutcome referencesTable tableLeft
+  short-references h = (rw (low-table f table h), rw (low-table f table h))
+
+  -- 14: a form that is not good; record and column 0, the first 12,000 words 0, later words as they were
+  pub malformed-references : (n r c : ℕ) → 12_000 ≤ length table → formVerdict chapter4 f ≡ refuse n r c
+      → (referencesAnswer f table ≡ refuse 14 0 0) × (referencesTable f table ≡ replicate 12_000 0 ++ drop 12_000 table)
+  unfolding referencesAnswer referencesOutcome referencesTable tableLeft verdict andThen isAccept
+  malformed-references n r c h e = (rw (enough-table f table h, e), rw (enough-table f table h, e))
 
 -- ---- rewrite
 pub record Untouched (f table out : List ℕ) : Type 0 where

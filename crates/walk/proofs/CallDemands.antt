@@ -1,6 +1,6 @@
 -- Demands 1 and 2 as facts about form and about references, each from its promise alone; and what the two say together.
 use mathlib.Core.Path.{_≡_, refl, sym, _∙_, ap, subst}
-use mathlib.Core.Logic.{_⊎_, inl, inr, _↔_}
+use mathlib.Core.Logic.{inl, inr, _↔_}
 use mathlib.Core.Bool.{Bool, true, false, cond, false≢true}
 use mathlib.Core.List.{List, [], _∷_, _++_}
 use Prim.Native.Nat.{ℕ, _+_, _≤_, _<_}
@@ -14,7 +14,6 @@ use Rattle.rules.specs.References.{words, counts, sum}
 use Rattle.rules.specs.Faults.{FirstOf, FormFault, ReferencesFaults}
 use Rattle.rules.specs.Calls.{bigTable, answer, tableLeft, formAnswer, referencesOutcome, referencesAnswer, referencesTable, fileAnswer}
 use Rattle.rules.specs.Chapter4.{chapter4}
-use Rattle.rules.specs.Conforms.{Formed, Conforms}
 use Rattle.rules.proofs.Truth.{both, and, of≤, to≤, no≤, of≢, is-no, cases, either}
 use Rattle.rules.proofs.FileLaws.{is-accept, then-accept}
 use Rattle.rules.proofs.FileFaults.{one-first}

@@ -12,7 +12,7 @@ use Rattle.rules.specs.References.{words}
 use Rattle.rules.specs.Calls.{outcome, bigTable, answer, tableLeft, formAnswer, referencesOutcome, referencesAnswer, referencesTable, fileAnswer}
 use Rattle.rules.specs.Chapter4.{atStart, chapter4}
 use Rattle.rules.proofs.Truth.{both, of≤, of>, of≡, of≢}
-use Rattle.rules.proofs.FileLaws.{walk-splits, formed-meant, is-accept}
+use Rattle.rules.proofs.FileLaws.{walk-splits, formed-meant}
 use Rattle.rules.proofs.TableLaws.{filled-is-words}
 use Rattle.rules.proofs.Bounds.{zero-walks, reference-refused}
 use Rattle.kinds.specs.declared.Fault.{Fault}

@@ -1,16 +1,15 @@
 -- Wrong programs that the promises do not allow: 01, "How tight the promises are" and "Slips we have seen"; 02, T-05.
 use mathlib.Core.Path.{_≡_, refl, sym, _∙_, ap}
-use mathlib.Core.Bool.{true, false}
 use mathlib.Core.List.{List, []}
 use Prim.Native.Nat.{ℕ, _≤_}
 use Prim.Native.String.{String}
 use native.Mathlib.Omega.{arith}
 use lib.ListN.{length, take, getD, replicate, length-replicate}
 use lib.Seq.{getD-take}
-use Rattle.rules.specs.Files.{accept, refuse, isAccept, meanings, formVerdict, verdict, accepted}
+use Rattle.rules.specs.Files.{accept, isAccept, meanings, accepted}
 use Rattle.rules.specs.Kinds.{*70*, *86*}
 use Rattle.rules.specs.References.{instruments, definer}
-use Rattle.rules.specs.Calls.{formAnswer, referencesOutcome, referencesAnswer, bigTable}
+use Rattle.rules.specs.Calls.{referencesAnswer, bigTable}
 use Rattle.rules.specs.Chapter4.{chapter4}
 use Rattle.rules.proofs.Truth.{of≤}
 use Rattle.rules.proofs.ReferenceLaws.{instruments-in}

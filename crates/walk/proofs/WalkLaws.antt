@@ -27,10 +27,9 @@ use Rattle.walk.specs.declared.kept.Kept.{Kept}
 use Rattle.walk.specs.declared.records.Stepped.{Stepped}
 use Rattle.walk.specs.declared.records.Stepped.the-variants.{Next, Fault}
 use Rattle.walk.specs.Keeping.{jobOf, pastOf, atFirst, latestIn, movedOf}
-use Rattle.walk.specs.Words.{noWords, leadIn, slotIn}
+use Rattle.walk.specs.Words.{leadIn, slotIn}
 use Rattle.walk.specs.Walking.{refusal, judgeAt, stepped, stepOf, Walked}
 use Rattle.walk.proofs.KeptLaws.{spelled}
-use Rattle.walk.proofs.WordLaws.{length-none}
 use Rattle.walk.proofs.NumberLaws.{lead-of-25, lead-of, its-kind, its-slot}
 
 -- ---- what is kept after a good record is what the rules keep

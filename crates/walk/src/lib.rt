@@ -26,9 +26,9 @@ ghost use Rattle.walk.specs.Walking.{Walked, settledOf, tableAfter};
 ghost use Rattle.walk.specs.Promise.{FormPromised, ReferencesPromised, together, Together};
 
 // What form and references say of one file.
-pub struct Both {
-    pub form: Checked,
-    pub references: Fault,
+struct Both {
+    form: Checked,
+    references: Fault,
 }
 
 // The walk by the order of Chapter 4, and by the table of its quick test.
