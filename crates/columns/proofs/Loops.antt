@@ -11,7 +11,7 @@ use lib.ListN.{length, getD, set, take, drop, drop-of-length-le}
 use lib.Seq.{drop-length, drop-cons, take-all, getD-set-same, drop-set-lt, lt-length-set, take-suc-set}
 use borrow.Author.Tests.{eqb-true, ne-eqb}
 use Rattle.rules.specs.Tests.{_&_, _≤?_, _=?_, within, all}
-use Rattle.rules.specs.Characters.{isBlank, isDigit}
+use Rattle.rules.specs.Characters.{isBlank, isDigit, anyOf}
 use Rattle.rules.specs.Digits.{val, put}
 use Rattle.rules.specs.Items.{minus}
 use Rattle.columns.specs.Leaves.{formed}
@@ -31,6 +31,21 @@ module _ (p : ℕ → Bool) (f : List ℕ) (i : ℕ) (good : Bool) where
   pub all-end : length f ≤ i → (good && all p (drop i f)) ≡ good
   unfolding all
   all-end h = rw (drop-of-length-le f h) (and-true good)
+
+-- a loop that compares with every character of a list: t is the test as the code writes it
+next-of : (found t : Bool) (rest : Bool) → ((found || t) || rest) ≡ (found || cond t true rest)
+next-of true t rest = refl
+next-of false true rest = refl
+next-of false false rest = refl
+
+module _ (f : List ℕ) (i b : ℕ) (found : Bool) where
+  pub any-turn : i < length f → ((found || eqb b (getD f i 0)) || anyOf (drop (i + 1) f) b) ≡ (found || anyOf (drop i f) b)
+  unfolding anyOf _=?_
+  any-turn h = rw (add-one, drop-cons f i 0) (next-of found (eqb b (getD f i 0)) (anyOf (drop (suc i) f) b))
+
+  pub any-end : length f ≤ i → (found || anyOf (drop i f) b) ≡ found
+  unfolding anyOf
+  any-end h = rw (drop-of-length-le f h) (or-false found)
 
 -- a minus in front: not yet found, and nothing but blanks so far
 first : (found blank z m : Bool) (b : ℕ) → eqb b 32 ≡ z → (found || blank && eqb b 45 || (blank && z) && m) ≡ (found || blank && cond z m (eqb b 45))

@@ -1,79 +1,61 @@
--- A set as its two ranges and three characters is the set. Below 128 the two are compared one by one, by computing; above, neither holds. Assumes nothing.
+-- The test of a set is the set: ranges are tried below 128 one by one, by computing, and above neither holds; titles and names are compared as their lists say. Assumes nothing.
 use mathlib.Core.Path.{_≡_, refl, sym, _∙_}
-use mathlib.Core.Bool.{Bool, true, false, cond, not, and-false}
+use mathlib.Core.Bool.{Bool, true, false, and-false}
 use mathlib.Core.List.{List, [], _∷_}
-use Prim.Native.Nat.{ℕ, _≤_, _<_}
+use Prim.Native.Nat.{ℕ, _<_}
 use native.Mathlib.Omega.{arith}
 use lib.Dec.{leb}
 use borrow.Author.Tests.{lt-leb, ne-eqb}
 use Rattle.rules.specs.Tests.{_&_, _≤?_, _=?_, within, all}
-use Rattle.rules.specs.Characters as rules
-use Rattle.rules.specs.Characters.{ascii, isPrintable, isBlank, isDigit, isLetter, anyOf, titleMarks, isTitle, member}
-use Rattle.rules.specs.Items.{word, each, passes, fits, render, text, onText}
-use Rattle.rules.proofs.Truth.{both, and, of≡, to-within, is-no, cases, to≤, no≤, under, tried}
-use Rattle.rules.proofs.Lawful.{lawful}
+use Rattle.rules.specs.Characters.{isPrintable, isBlank, isDigit, isLetter, member}
+use Rattle.rules.specs.Fields.{sameTruth}
+use Rattle.rules.proofs.Truth.{both, to≤, under}
+use Rattle.rules.proofs.SetLaws.{by-trial, no-member-above}
 use Rattle.columns.specs.Types.{setOf}
-use Rattle.columns.specs.Leaves.{inside, ranges, rangesOf}
+use Rattle.columns.specs.Leaves.{inside, testOf}
 use Rattle.columns.specs.declared.Set.{Set}
+use Rattle.columns.specs.declared.sets.Ranges.{Ranges}
 
--- ---- two tests that agree wherever they are tried
-agree : Bool → Bool → Bool
-agree a b = cond a b (not b)
+-- ---- ranges
+-- the last of each range, and the character
+ends : Ranges → List ℕ
+ends m = m .high ∷ m .top ∷ m .one ∷ []
 
-agreed : (a b : Bool) → agree a b ≡ true → a ≡ b
-unfolding agree
-agreed true true h = refl
-agreed true false h = sym h
-agreed false true h = h
-agreed false false h = refl
+none : (m : Ranges) (b : ℕ) → all (λ c. c ≤? 127) (ends m) ≡ true → 127 < b → inside m b ≡ false
+unfolding all ends
+none m b h k =
+    let one = both h in
+    let two = both (one .1) in
+    let three = both (two .1) in
+    rw (
+      lt-leb b (m .high) (omega (arith, to≤ (one .0))),
+      lt-leb b (m .top) (omega (arith, to≤ (two .0))),
+      ne-eqb b (m .one) (λ e. omega (arith, e, to≤ (three .0))),
+      and-false (leb (m .low) b),
+      and-false (leb (m .bottom) b),
+    )
 
--- ---- below 128
-low : (s : Set) → all (λ b. agree (inside (rangesOf s) b) (member (setOf s) b)) (under 128) ≡ true
-unfolding all under agree setOf member isPrintable isBlank isDigit isLetter isTitle anyOf titleMarks ascii within _&_ _≤?_ _=?_
-low Set.Letter = refl
-low Set.LetterOrSpace = refl
-low Set.LetterOrDigit = refl
-low Set.LetterOrDigitOrSpace = refl
-low Set.Digit = refl
-low Set.Printable = refl
-low Set.Title = refl
-low Set.Name = refl
-low Set.YesNo = refl
-low Set.YesNoOrSpace = refl
+ranged : (m : Ranges) (s : Set) → all (λ c. c ≤? 127) (ends m) ≡ true → all (λ b. sameTruth (inside m b) (member (setOf s) b)) (under 128) ≡ true → (b : ℕ) → inside m b ≡ member (setOf s) b
+ranged m s e h = by-trial (inside m) (member (setOf s)) h (λ b k. none m b e k ∙ sym (no-member-above (setOf s) b k))
 
--- ---- from 128 on
-none : (l h m t x y z b : ℕ) → h < b → t < b → x < b → y < b → z < b → inside (ranges l h m t x y z) b ≡ false
-none l h m t x y z b p q i j k =
-    rw (lt-leb b h p, lt-leb b t q, ne-eqb b x (λ e. omega arith), ne-eqb b y (λ e. omega arith), ne-eqb b z (λ e. omega arith), and-false (leb l b), and-false (leb m b))
-
-high : (s : Set) (b : ℕ) → 127 < b → inside (rangesOf s) b ≡ false
-high Set.Letter b h = none 65 90 65 90 65 65 65 b (omega arith) (omega arith) (omega arith) (omega arith) (omega arith)
-high Set.LetterOrSpace b h = none 65 90 65 90 32 32 32 b (omega arith) (omega arith) (omega arith) (omega arith) (omega arith)
-high Set.LetterOrDigit b h = none 65 90 48 57 65 65 65 b (omega arith) (omega arith) (omega arith) (omega arith) (omega arith)
-high Set.LetterOrDigitOrSpace b h = none 65 90 48 57 32 32 32 b (omega arith) (omega arith) (omega arith) (omega arith) (omega arith)
-high Set.Digit b h = none 48 57 48 57 48 48 48 b (omega arith) (omega arith) (omega arith) (omega arith) (omega arith)
-high Set.Printable b h = none 32 126 32 126 32 32 32 b (omega arith) (omega arith) (omega arith) (omega arith) (omega arith)
-high Set.Title b h = none 65 90 39 57 32 61 92 b (omega arith) (omega arith) (omega arith) (omega arith) (omega arith)
-high Set.Name b h = none 65 90 39 57 32 61 61 b (omega arith) (omega arith) (omega arith) (omega arith) (omega arith)
-high Set.YesNo b h = none 89 89 78 78 89 89 89 b (omega arith) (omega arith) (omega arith) (omega arith) (omega arith)
-high Set.YesNoOrSpace b h = none 89 89 78 78 32 32 32 b (omega arith) (omega arith) (omega arith) (omega arith) (omega arith)
-
--- whatever is of a set is printable, since a word of one column is
-printed : (s : rules.Set) (b : ℕ) → member s b ≡ true → b ≤ 126
-unfolding fits onText render passes all isPrintable
-printed s b h =
-    to-within (both (lawful (word 1 (each s)) (text (b ∷ [])) (and (of≡ {m = 1} refl) (and h refl)) .printed) .0) .1
-
-pub inside-member : (s : Set) (b : ℕ) → inside (rangesOf s) b ≡ member (setOf s) b
-inside-member s b =
-    cases (b ≤? 127)
-    (λ e. agreed _ _ (tried (λ b. agree (inside (rangesOf s) b) (member (setOf s) b)) 128 b (low s) (omega (arith, to≤ e))))
-    (λ e. high s b (omega (arith, no≤ e)) ∙ sym (is-no (member (setOf s) b) (λ m. omega (arith, no≤ e, printed (setOf s) b m))))
+-- ---- every set
+test-member : (s : Set) (b : ℕ) → testOf s b ≡ member (setOf s) b
+unfolding all ends under sameTruth setOf member isPrintable isBlank isDigit isLetter within _&_ _≤?_ _=?_
+test-member Set.Letter b = ranged _ Set.Letter refl refl b
+test-member Set.LetterOrSpace b = ranged _ Set.LetterOrSpace refl refl b
+test-member Set.LetterOrDigit b = ranged _ Set.LetterOrDigit refl refl b
+test-member Set.LetterOrDigitOrSpace b = ranged _ Set.LetterOrDigitOrSpace refl refl b
+test-member Set.Digit b = ranged _ Set.Digit refl refl b
+test-member Set.Printable b = ranged _ Set.Printable refl refl b
+test-member Set.Title b = refl
+test-member Set.Name b = refl
+test-member Set.YesNo b = ranged _ Set.YesNo refl refl b
+test-member Set.YesNoOrSpace b = ranged _ Set.YesNoOrSpace refl refl b
 
 all-same : (p q : ℕ → Bool) → ((b : ℕ) → p b ≡ q b) → (bs : List ℕ) → all p bs ≡ all q bs
 unfolding all
 all-same p q f [] = refl
 all-same p q f (b ∷ bs) = rw (f b, all-same p q f bs)
 
-pub all-members : (s : Set) (bs : List ℕ) → all (inside (rangesOf s)) bs ≡ all (member (setOf s)) bs
-all-members s bs = all-same _ _ (inside-member s) bs
+pub all-members : (s : Set) (bs : List ℕ) → all (testOf s) bs ≡ all (member (setOf s)) bs
+all-members s bs = all-same _ _ (test-member s) bs

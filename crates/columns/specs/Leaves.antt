@@ -7,7 +7,7 @@ use lib.Dec.{leb, eqb}
 use lib.ListN.{length, getD}
 use lib.IntN.{ℤ, pos, negsuc}
 use Rattle.rules.specs.Tests.{_&_, _≤?_, _=?_, all}
-use Rattle.rules.specs.Characters.{isDigit}
+use Rattle.rules.specs.Characters.{isDigit, anyOf, titleCharacters, nameCharacters}
 use Rattle.rules.specs.Digits.{val, put}
 use Rattle.rules.specs.Items.{Item, height, Value, width, fits, render, dmsForm, angleOf}
 use Rattle.columns.specs.Types.{heightValue}
@@ -25,22 +25,23 @@ written i v old = cond (length old =? width i & fits i v) (render i v) old
 
 -- ---- sets
 abbrev pub inside : Ranges → ℕ → Bool
-inside m b = leb (m .low) b && leb b (m .high) || leb (m .bottom) b && leb b (m .top) || eqb b (m .one) || eqb b (m .two) || eqb b (m .three)
+inside m b = leb (m .low) b && leb b (m .high) || leb (m .bottom) b && leb b (m .top) || eqb b (m .one)
 
-abbrev pub ranges : (low high bottom top one two three : ℕ) → Ranges
-ranges low high bottom top one two three = record { low = low; high = high; bottom = bottom; top = top; one = one; two = two; three = three }
+abbrev pub ranges : (low high bottom top one : ℕ) → Ranges
+ranges low high bottom top one = record { low = low; high = high; bottom = bottom; top = top; one = one }
 
-abbrev pub rangesOf : Set → Ranges
-rangesOf Set.Letter = ranges 65 90 65 90 65 65 65
-rangesOf Set.LetterOrSpace = ranges 65 90 65 90 32 32 32
-rangesOf Set.LetterOrDigit = ranges 65 90 48 57 65 65 65
-rangesOf Set.LetterOrDigitOrSpace = ranges 65 90 48 57 32 32 32
-rangesOf Set.Digit = ranges 48 57 48 57 48 48 48
-rangesOf Set.Printable = ranges 32 126 32 126 32 32 32
-rangesOf Set.Title = ranges 65 90 39 57 32 61 92
-rangesOf Set.Name = ranges 65 90 39 57 32 61 61
-rangesOf Set.YesNo = ranges 89 89 78 78 89 89 89
-rangesOf Set.YesNoOrSpace = ranges 89 89 78 78 32 32 32
+-- the test of a character by its set
+abbrev pub testOf : Set → ℕ → Bool
+testOf Set.Letter = inside (ranges 65 90 65 90 65)
+testOf Set.LetterOrSpace = inside (ranges 65 90 65 90 32)
+testOf Set.LetterOrDigit = inside (ranges 65 90 48 57 65)
+testOf Set.LetterOrDigitOrSpace = inside (ranges 65 90 48 57 32)
+testOf Set.Digit = inside (ranges 48 57 48 57 48)
+testOf Set.Printable = inside (ranges 32 126 32 126 32)
+testOf Set.Title = anyOf titleCharacters
+testOf Set.Name = anyOf nameCharacters
+testOf Set.YesNo = inside (ranges 89 89 78 78 89)
+testOf Set.YesNoOrSpace = inside (ranges 89 89 78 78 32)
 
 -- ---- numbers
 -- the sum of any bytes: a byte counts at most 207, which is 9 times 23

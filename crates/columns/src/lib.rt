@@ -1,5 +1,6 @@
 // One field of a record, in a slice that is exactly the field's columns: judged, read and written. No function asks anything of
 // its caller, and each promise is one equation with the definitions of `rules`; what is no value of a field is told by the types.
+pub mod alphabets;
 pub mod angles;
 pub mod heights;
 pub mod labels;

@@ -1,12 +1,14 @@
 // Characters by their sets. The loops have no branch, so that the compiler judges many columns at once.
 use crate::Set;
+use crate::alphabets::all_named;
+use crate::alphabets::all_titled;
 ghost use mathlib.Core.Path.{_≡_};
 ghost use lib.ListN.{length};
 ghost use Rattle.rules.specs.Tests.{all, _=?_, within};
 ghost use Rattle.rules.specs.Characters.{isBlank};
 ghost use Rattle.rules.specs.Items.{good, blank, constant, word, each, orBlank};
 ghost use Rattle.columns.specs.Types.{setOf};
-ghost use Rattle.columns.specs.Leaves.{inside, ranges, rangesOf};
+ghost use Rattle.columns.specs.Leaves.{inside, ranges, testOf};
 
 // Every column is c.
 pub fn all_are(part: &[u8], c: u8) -> bool
@@ -44,29 +46,23 @@ pub fn all_blank(part: &[u8]) -> bool
     all_are(part, 32)
 }
 
-// A set as two ranges and three characters, so that one loop serves all sets. What a set does not need repeats what it has.
+// A set as two ranges and a character, so that one loop serves all such sets. What a set does not need repeats what it has.
 struct Ranges {
     low: u8,
     high: u8,
     bottom: u8,
     top: u8,
     one: u8,
-    two: u8,
-    three: u8,
 }
 
 fn is_inside(m: Ranges, b: u8) -> bool
     ensures { λ r. ⌜ r ≡ inside m b ⌝ }
 {
-    ((m.low <= b) & (b <= m.high))
-        | ((m.bottom <= b) & (b <= m.top))
-        | (b == m.one)
-        | (b == m.two)
-        | (b == m.three)
+    ((m.low <= b) & (b <= m.high)) | ((m.bottom <= b) & (b <= m.top)) | (b == m.one)
 }
 
-fn new_ranges(low: u8, high: u8, bottom: u8, top: u8, one: u8, two: u8, three: u8) -> Ranges
-    ensures { λ r. ⌜ r ≡ ranges low high bottom top one two three ⌝ }
+fn new_ranges(low: u8, high: u8, bottom: u8, top: u8, one: u8) -> Ranges
+    ensures { λ r. ⌜ r ≡ ranges low high bottom top one ⌝ }
 {
     Ranges {
         low: low,
@@ -74,26 +70,6 @@ fn new_ranges(low: u8, high: u8, bottom: u8, top: u8, one: u8, two: u8, three: u
         bottom: bottom,
         top: top,
         one: one,
-        two: two,
-        three: three,
-    }
-}
-
-// The characters of a title lie in A-Z, in ' to 9, and are space, = and \.
-fn ranges_of(s: Set) -> Ranges
-    ensures { λ r. ⌜ r ≡ rangesOf s ⌝ }
-{
-    match s {
-        Set::Letter => new_ranges(65, 90, 65, 90, 65, 65, 65),
-        Set::LetterOrSpace => new_ranges(65, 90, 65, 90, 32, 32, 32),
-        Set::LetterOrDigit => new_ranges(65, 90, 48, 57, 65, 65, 65),
-        Set::LetterOrDigitOrSpace => new_ranges(65, 90, 48, 57, 32, 32, 32),
-        Set::Digit => new_ranges(48, 57, 48, 57, 48, 48, 48),
-        Set::Printable => new_ranges(32, 126, 32, 126, 32, 32, 32),
-        Set::Title => new_ranges(65, 90, 39, 57, 32, 61, 92),
-        Set::Name => new_ranges(65, 90, 39, 57, 32, 61, 61),
-        Set::YesNo => new_ranges(89, 89, 78, 78, 89, 89, 89),
-        Set::YesNoOrSpace => new_ranges(89, 89, 78, 78, 32, 32, 32),
     }
 }
 
@@ -108,6 +84,24 @@ fn all_inside(part: &[u8], m: Ranges) -> bool
         i += 1;
     }
     good
+}
+
+// Every column by the test of its set. The characters of titles and names have no ranges: each is compared by itself.
+fn all_of(part: &[u8], s: Set) -> bool
+    ensures { λ r. ⌜ r ≡ all (testOf s) (now (part .entry)) ⌝ }
+{
+    match s {
+        Set::Letter => all_inside(part, new_ranges(65, 90, 65, 90, 65)),
+        Set::LetterOrSpace => all_inside(part, new_ranges(65, 90, 65, 90, 32)),
+        Set::LetterOrDigit => all_inside(part, new_ranges(65, 90, 48, 57, 65)),
+        Set::LetterOrDigitOrSpace => all_inside(part, new_ranges(65, 90, 48, 57, 32)),
+        Set::Digit => all_inside(part, new_ranges(48, 57, 48, 57, 48)),
+        Set::Printable => all_inside(part, new_ranges(32, 126, 32, 126, 32)),
+        Set::Title => all_titled(part),
+        Set::Name => all_named(part),
+        Set::YesNo => all_inside(part, new_ranges(89, 89, 78, 78, 89)),
+        Set::YesNoOrSpace => all_inside(part, new_ranges(89, 89, 78, 78, 32)),
+    }
 }
 
 pub fn good_blank(part: &[u8]) -> bool
@@ -125,11 +119,11 @@ pub fn good_constant(part: &[u8], c: u8) -> bool
 pub fn good_word(part: &[u8], s: Set) -> bool
     ensures { λ r. ⌜ r ≡ good (word (length (now (part .entry))) (each (setOf s))) (now (part .entry)) ⌝ }
 {
-    all_inside(part, ranges_of(s))
+    all_of(part, s)
 }
 
 pub fn good_word_or_blank(part: &[u8], s: Set) -> bool
     ensures { λ r. ⌜ r ≡ good (word (length (now (part .entry))) (orBlank (setOf s))) (now (part .entry)) ⌝ }
 {
-    all_blank(part) | all_inside(part, ranges_of(s))
+    all_blank(part) | all_of(part, s)
 }

@@ -5,7 +5,7 @@ use mathlib.Core.List.{List, [], _∷_, _++_}
 use Prim.Native.Nat.{ℕ}
 use lib.IntN.{pos}
 use Rattle.rules.specs.Tests.{_&_, _≤?_, _=?_, within, all}
-use Rattle.rules.specs.Characters.{ascii, isPrintable, isBlank, isDigit, isLetter, isTitle, anyOf, titleMarks, letter, digit, _or_, member}
+use Rattle.rules.specs.Characters.{ascii, isPrintable, isBlank, isDigit, isLetter, anyOf, titleCharacters, nameCharacters, letter, digit, _or_, member}
 use Rattle.rules.specs.Items.{Item, blank, constant, number, height, angle, month, media, word, each, orBlank, num, onNumber, fits, top, isMonth, isMedia}
 use Rattle.rules.specs.Records.{sequence}
 use Rattle.rules.specs.Kinds.{starred, kindBetween, kindOf, known}
@@ -26,7 +26,7 @@ refuses (word w (orBlank s)) = not (member s 0)
 
 -- every field of every kind of record
 pub layouts-refuse : all (λ fs. all (λ f. refuses (f .item)) fs) layouts ≡ true
-unfolding refuses all fits onNumber member isPrintable isBlank isDigit isLetter isTitle anyOf titleMarks ascii top isMonth within _&_ _≤?_ _=?_ layouts
+unfolding refuses all fits onNumber member isPrintable isBlank isDigit isLetter anyOf titleCharacters nameCharacters ascii top isMonth within _&_ _≤?_ _=?_ layouts
 layouts-refuse = refl
 
 -- and so where there is no such kind

@@ -10,7 +10,7 @@ use lib.ListN.{length, length-append, length-drop, replicate, length-replicate, 
 use lib.Seq.{take-at, getD-at, take-all, take-take, take-append-seam, take-append-add, drop-append-le, length-take-le}
 use lib.IntN.{pos}
 use Rattle.rules.specs.Tests.{all, within, _&_, _≤?_, _=?_}
-use Rattle.rules.specs.Characters.{isPrintable, isBlank, isDigit, isLetter, Set, letter, digit, space, printable, title, name, only, _or_, member, oneOf, isTitle}
+use Rattle.rules.specs.Characters.{ascii, isPrintable, isBlank, isDigit, isLetter, anyOf, titleCharacters, nameCharacters, Set, letter, digit, space, printable, title, name, only, _or_, member, oneOf}
 use Rattle.rules.specs.Digits.{val, put}
 use Rattle.rules.specs.Items.{missing, num, Way, latitude, longitude, each, orBlank, Item, blank, constant, number, height, angle, month, media, word}
 use Rattle.rules.specs.Items.{setIn, numForm, heightForm, minus, signed, passes, render, angleOf, dms, dmsForm, columns, top, low, plus, angleValue, isMonth, isMedia, onGap, onNumber, onText, onLabel, width, shape, valueOf, fits, good, least, ends, goesOn, begins, firstBad, spot}
@@ -78,8 +78,8 @@ one-member letter b h = unfold member oneOf isLetter within _≤?_ _&_ in refl
 one-member digit b h = unfold member oneOf isDigit within _≤?_ _&_ in refl
 one-member space b h = unfold member oneOf isBlank _=?_ in refl
 one-member printable b h = unfold member oneOf isPrintable within _≤?_ _&_ in refl
-one-member title b h = unfold member oneOf isTitle isLetter within _≤?_ _&_ in refl
-one-member name b h = unfold member oneOf isTitle isLetter within _≤?_ _=?_ _&_ in refl
+one-member title b h = unfold member oneOf anyOf titleCharacters ascii _=?_ in refl
+one-member name b h = unfold member oneOf anyOf nameCharacters ascii _=?_ in refl
 one-member (only c) b h = one-only c b h
 one-member (s or t) b h =
     choice (member s b) (member t b) (unfold member in h) _ (λ e. one-left s t (one-member s b e)) (λ e. one-right s t (one-member t b e))

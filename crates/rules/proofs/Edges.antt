@@ -7,7 +7,7 @@ use Prim.Native.Nat.{ℕ, zero, suc, _+_, _-_}
 use Prim.Native.String.{String}
 use lib.ListN.{length, take, drop, replicate}
 use Rattle.rules.specs.Tests.{_&_, _=?_}
-use Rattle.rules.specs.Characters.{ascii, Set, letter, digit, space, printable, title, name, member}
+use Rattle.rules.specs.Characters.{ascii, titleCharacters, nameCharacters, Set, letter, digit, space, printable, title, name, member}
 use Rattle.rules.specs.Digits.{put}
 use Rattle.rules.specs.Fields.{Verdict, ok, fault}
 use Rattle.rules.specs.Records.{readLine}
@@ -107,6 +107,14 @@ pub sets :
     ∷ ascii " '()*+,-./0123456789=ABCDEFGHIJKLMNOPQRSTUVWXYZ" ∷ [])
 unfolding members
 sets = refl
+
+-- 001's cells, part by part in the order printed: *10* *11* "A..Z 0..9 * , ' =", ") ( - . + \ /", "space"; *12* "A..Z, 0..9, *, , ,", "' , =, (, -, ., +,", ") , /, space", and "\n", which cannot stand in a line
+pub printed :
+    (titleCharacters ∷ nameCharacters ∷ [])
+    ≡ ((ascii A-Z ++ ascii "0123456789" ++ ascii "*,'=" ++ ascii ")(-.+\\/" ++ ascii " ")
+    ∷ (ascii A-Z ++ ascii "0123456789" ++ ascii "*," ++ ascii "'=(-.+" ++ ascii ")/ ") ∷ [])
+unfolding ascii titleCharacters nameCharacters
+printed = refl
 
 -- ---- columns 7-10: every pair of digits; every byte as the first, as the second character of a job code, and in the place of each asterisk
 unfoldable pub codes : List (List ℕ)

@@ -8,7 +8,7 @@ use lib.ListN.{length, length-append, replicate, length-replicate, take, drop, g
 use lib.Seq.{take-at, drop-at, getD-at, take-add, drop-drop, getD-drop}
 use lib.IntN.{pos, negsuc}
 use Rattle.rules.specs.Tests.{all, within, _&_, _≤?_, _=?_}
-use Rattle.rules.specs.Characters.{ascii, isPrintable, isBlank, isDigit, isLetter, anyOf, titleMarks, isTitle, Set, letter, digit, space, printable, title, name, only, _or_, member}
+use Rattle.rules.specs.Characters.{ascii, isPrintable, isBlank, isDigit, isLetter, anyOf, titleCharacters, nameCharacters, Set, letter, digit, space, printable, title, name, only, _or_, member}
 use Rattle.rules.specs.Digits.{val, put}
 use Rattle.rules.specs.Items.{Value, gap, missing, num, text, label, Way, latitude, longitude, Test, each, orBlank, Item, blank, constant, number, height, angle, month, media, word}
 use Rattle.rules.specs.Items.{numForm, heightForm, minus, signed, passes, angleOf, dms, dmsForm, columns, top, low, plus, minusOf, angleValue, isMonth, isMedia, onGap, onNumber, onText, onLabel, width, shape, valueOf, fits, render, good, begins, firstBad, spot}
@@ -56,14 +56,13 @@ anyOf-printable [] b k h = absurd (false≢true h)
 anyOf-printable (c ∷ cs) b k h =
     choice (b =? c) (anyOf cs b) h _ (λ e. rw (to≡ e) (both k .0)) (λ e. anyOf-printable cs b (both k .1) e)
 
-marks-printable : all isPrintable titleMarks ≡ true
-unfolding titleMarks ascii all isPrintable within _&_ _≤?_
-marks-printable = refl
+titles-printable : all isPrintable titleCharacters ≡ true
+unfolding titleCharacters ascii all isPrintable within _&_ _≤?_
+titles-printable = refl
 
-title-printable : (b : ℕ) → isTitle b ≡ true → isPrintable b ≡ true
-unfolding isTitle
-title-printable b h =
-    choice (isLetter b) _ h _ (letter-printable b) (λ e. choice (isDigit b) _ e _ (digit-printable b) (anyOf-printable titleMarks b marks-printable))
+names-printable : all isPrintable nameCharacters ≡ true
+unfolding nameCharacters ascii all isPrintable within _&_ _≤?_
+names-printable = refl
 
 pub member-printable : (s : Set) (b : ℕ) → member s b ≡ true → isPrintable b ≡ true
 unfolding member
@@ -71,8 +70,8 @@ member-printable letter b h = letter-printable b h
 member-printable digit b h = digit-printable b h
 member-printable space b h = blank-printable b h
 member-printable printable b h = h
-member-printable title b h = title-printable b h
-member-printable name b h = title-printable b (both h .0)
+member-printable title b h = anyOf-printable titleCharacters b titles-printable h
+member-printable name b h = anyOf-printable nameCharacters b names-printable h
 member-printable (only c) b h = both h .0
 member-printable (s or t) b h = choice (member s b) (member t b) h _ (member-printable s b) (member-printable t b)
 

@@ -8,7 +8,7 @@ use native.Mathlib.Omega.{arith}
 use lib.ListN.{getD, replicate}
 use lib.IntN.{negsuc}
 use Rattle.rules.specs.Tests.{all, within, _&_, _≤?_, _=?_}
-use Rattle.rules.specs.Characters.{ascii, isPrintable, isBlank, isDigit, isLetter, anyOf, titleMarks, isTitle, member, oneOf}
+use Rattle.rules.specs.Characters.{ascii, isPrintable, isBlank, isDigit, isLetter, anyOf, titleCharacters, nameCharacters, member, oneOf}
 use Rattle.rules.specs.Digits.{val, put, stripped, numeral}
 use Rattle.rules.specs.Items.{Value, missing, num, numForm, heightForm, minus, signed, passes, angleOf, dms, dmsForm, columns, top, low, plus, minusOf, angleValue, isMonth, isMedia, onGap, onNumber, onText, onLabel, width, shape, valueOf, fits, render, good, setIn, least, ends, goesOn, begins, firstBad, spot}
 use Rattle.rules.specs.Fields.{ok, check, _⨾_, isOk, run, columnsOf, read, given, entriesOf, values, valueAt, numOf, isMissing, sameTruth, meets, agreesWith, agrees, judgeEach, judge, renders}
@@ -162,7 +162,7 @@ abbrev pub full : List String
 full = r-job ∷ r-title ∷ r-more ∷ r-project ∷ r-occupy1 ∷ r-comment ∷ r-begin1 ∷ r-end1 ∷ r-occupy2 ∷ r-begin2 ∷ r-begin2 ∷ r-begin2 ∷ r-receiver1 ∷ r-receiver2 ∷ r-aerial1 ∷ r-aerial2 ∷ r-point1 ∷ r-heights1 ∷ r-point2 ∷ r-heights2 ∷ r-network ∷ r-local ∷ r-factor ∷ r-last ∷ []
 
 unfoldable pub judged : List String → Result
-unfolding bytesOf all within _&_ _≤?_ _=?_ isPrintable isBlank isDigit isLetter anyOf titleMarks isTitle member val put numForm heightForm minus signed passes angleOf dms dmsForm columns top low plus minusOf angleValue isMonth isMedia onGap onNumber onText onLabel width shape valueOf fits render good setIn least ends goesOn begins firstBad spot oneOf check _⨾_ isOk run columnsOf read given entriesOf values valueAt numOf isMissing sameTruth meets agreesWith agrees judgeEach judge renders sequence bytes codeAt entries numbered judgeLine readLine meaning told lineOf style inRecord andThen lineAt begun linesFrom lines join meanings passed walk refer verdict styles houseStyle rewritten dataCodes kindFrom starred kindBetween kindOf known layouts layout order goto isA numberAt defines definerFrom definer asked refChecks atStart sameBytes mayStand expectation latest after
+unfolding bytesOf all within _&_ _≤?_ _=?_ isPrintable isBlank isDigit isLetter anyOf titleCharacters nameCharacters member val put numForm heightForm minus signed passes angleOf dms dmsForm columns top low plus minusOf angleValue isMonth isMedia onGap onNumber onText onLabel width shape valueOf fits render good setIn least ends goesOn begins firstBad spot oneOf check _⨾_ isOk run columnsOf read given entriesOf values valueAt numOf isMissing sameTruth meets agreesWith agrees judgeEach judge renders sequence bytes codeAt entries numbered judgeLine readLine meaning told lineOf style inRecord andThen lineAt begun linesFrom lines join meanings passed walk refer verdict styles houseStyle rewritten dataCodes kindFrom starred kindBetween kindOf known layouts layout order goto isA numberAt defines definerFrom definer asked refChecks atStart sameBytes mayStand expectation latest after
 judged ls = verdict chapter4 (bytesOf ls)
 
 pub full-accepted : judged full ≡ accept

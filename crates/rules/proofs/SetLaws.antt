@@ -1,12 +1,12 @@
--- The test of each set of characters is the list of its members: tried on the first 128 characters, and no set has another.
+-- The test of each set of characters is the list of its members: ranges are tried on the first 128 characters, and no set has another.
 use mathlib.Core.Path.{_≡_, refl, sym, _∙_, ap}
 use mathlib.Core.Logic.{inl, inr}
-use mathlib.Core.Bool.{Bool, true, false, cond, false≢true}
+use mathlib.Core.Bool.{Bool, true, false, cond, not, false≢true}
 use mathlib.Core.List.{List, [], _∷_, _++_}
 use Prim.Native.Nat.{ℕ, _≤_, _<_}
 use native.Mathlib.Omega.{arith}
 use Rattle.rules.specs.Tests.{all, within, _&_, _≤?_, _=?_}
-use Rattle.rules.specs.Characters.{ascii, isPrintable, isBlank, isDigit, isLetter, anyOf, titleMarks, isTitle, Set, letter, digit, space, printable, title, name, only, _or_, member}
+use Rattle.rules.specs.Characters.{ascii, isPrintable, isBlank, isDigit, isLetter, anyOf, titleCharacters, nameCharacters, Set, letter, digit, space, printable, title, name, only, _or_, member}
 use Rattle.rules.specs.Fields.{sameTruth}
 use Rattle.rules.specs.Members.{_∈_, _⊆_}
 use Rattle.rules.specs.Forms.{charactersOf}
@@ -37,15 +37,11 @@ low c = c ≤? 127
 none-above : (cs : List ℕ) (b : ℕ) → all low cs ≡ true → 127 < b → anyOf cs b ≡ false
 none-above cs b h k = is-no (anyOf cs b) (λ e. let m : b ≤ 127 = to≤ (unfold low in all-members low cs h b (any-member cs b e)) in omega arith)
 
-no-member-above : (s : Set) (b : ℕ) → 127 < b → member s b ≡ false
+pub no-member-above : (s : Set) (b : ℕ) → 127 < b → member s b ≡ false
 no-member-above s b k = is-no (member s b) (λ e. omega (arith, below (member-printable s b e)))
   where
     below : isPrintable b ≡ true → b ≤ 126
     below p = unfold isPrintable in to-within p .1
-
--- both lists and tests end below 128, so that trying these is enough
-listed : Set → ℕ → Bool
-listed s b = sameTruth (member s b) (anyOf (charactersOf s) b)
 
 pub same-truth : (a b : Bool) → sameTruth a b ≡ true → a ≡ b
 unfolding sameTruth
@@ -54,12 +50,15 @@ same-truth true false h = absurd (false≢true h)
 same-truth false true h = absurd (false≢true h)
 same-truth false false h = refl
 
-by-trial : (s : Set) → all (listed s) (under 128) ≡ true → all low (charactersOf s) ≡ true → (b : ℕ) → member s b ≡ anyOf (charactersOf s) b
-unfolding listed
-by-trial s h k b =
+-- tests and lists end below 128, so that trying these is enough
+pub by-trial : (p q : ℕ → Bool) → all (λ b. sameTruth (p b) (q b)) (under 128) ≡ true → ((b : ℕ) → 127 < b → p b ≡ q b) → (b : ℕ) → p b ≡ q b
+by-trial p q h above b =
     cases (b ≤? 127)
-    (λ e. let small : b ≤ 127 = to≤ e in same-truth (member s b) (anyOf (charactersOf s) b) (tried (listed s) 128 b h (omega arith)))
-    (λ e. no-member-above s b (no≤ e) ∙ sym (none-above (charactersOf s) b k (no≤ e)))
+    (λ e. let small : b ≤ 127 = to≤ e in same-truth (p b) (q b) (tried (λ b. sameTruth (p b) (q b)) 128 b h (omega arith)))
+    (λ e. above b (no≤ e))
+
+spelled-out : (s : Set) → all (λ b. sameTruth (member s b) (anyOf (charactersOf s) b)) (under 128) ≡ true → all low (charactersOf s) ≡ true → (b : ℕ) → member s b ≡ anyOf (charactersOf s) b
+spelled-out s h k b = by-trial (member s) (anyOf (charactersOf s)) h (λ b above. no-member-above s b above ∙ sym (none-above (charactersOf s) b k above)) b
 
 one-only : (c b : ℕ) → isPrintable b & b =? c ≡ anyOf (cond (isPrintable c) (c ∷ []) []) b
 one-only c b =
@@ -78,15 +77,26 @@ one-only c b =
     none e false false = unfold anyOf _&_ in refl
 
 pub listed-is : (s : Set) (b : ℕ) → member s b ≡ anyOf (charactersOf s) b
-unfolding charactersOf member listed low all under sameTruth anyOf ascii isTitle titleMarks isLetter isDigit isBlank isPrintable within _&_ _≤?_ _=?_
-listed-is letter b = by-trial letter refl refl b
-listed-is digit b = by-trial digit refl refl b
-listed-is space b = by-trial space refl refl b
-listed-is printable b = by-trial printable refl refl b
-listed-is title b = by-trial title refl refl b
-listed-is name b = by-trial name refl refl b
+unfolding charactersOf member low all under sameTruth anyOf ascii isLetter isDigit isBlank isPrintable within _&_ _≤?_ _=?_
+listed-is letter b = spelled-out letter refl refl b
+listed-is digit b = spelled-out digit refl refl b
+listed-is space b = spelled-out space refl refl b
+listed-is printable b = spelled-out printable refl refl b
+listed-is title b = refl
+listed-is name b = refl
 listed-is (only c) b = one-only c b
 listed-is (s or t) b = rw (listed-is s b, listed-is t b) (sym (any-append (charactersOf s) (charactersOf t) b))
+
+-- ---- 01's words for the two lists that 001 prints
+-- "from A-Z 0-9 `* , ' = ) ( - . + \ /` and space"
+pub titles : (b : ℕ) → member title b ≡ cond (isLetter b) true (cond (isDigit b) true (anyOf (ascii "*,'=)(-.+\\/ ") b))
+unfolding member low all under sameTruth anyOf ascii titleCharacters isLetter isDigit within _&_ _≤?_ _=?_
+titles = by-trial _ _ refl (λ b h. no-member-above title b h ∙ sym (rw (no-member-above letter b h, no-member-above digit b h, none-above (ascii "*,'=)(-.+\\/ ") b refl h)))
+
+-- "as *10* without the backslash"
+pub names : (b : ℕ) → member name b ≡ member title b & not (b =? 92)
+unfolding member low all under sameTruth anyOf ascii titleCharacters nameCharacters _&_ _≤?_ _=?_
+names = by-trial _ _ refl (λ b h. no-member-above name b h ∙ sym (rw (no-member-above title b h)))
 
 -- ---- of one character, and of every column
 pub in-set : (s : Set) (b : ℕ) → member s b ≡ true → b ∈ charactersOf s

@@ -1,5 +1,5 @@
 -- 01, "How a field is read" and "Field tables": the sets of characters. A character is its byte.
-use mathlib.Core.Bool.{Bool, true, false, cond, not}
+use mathlib.Core.Bool.{Bool, true, false, cond}
 use mathlib.Core.List.{List, [], _∷_}
 use Prim.Native.Nat.{ℕ}
 use Prim.Native.String as Str
@@ -32,28 +32,29 @@ unfoldable pub anyOf : List ℕ → ℕ → Bool
 anyOf [] b = false
 anyOf (c ∷ cs) b = cond (b =? c) true (anyOf cs b)
 
--- 01, *10* *11*: what may stand in a title besides letters and digits, in the paper's order
-unfoldable pub titleMarks : List ℕ
+-- 01, *10* *11*: what a title is made of, one after another in the order in which 001 prints them for columns 11-80
+unfoldable pub titleCharacters : List ℕ
 unfolding ascii
-titleMarks = ascii "*,'=)(-.+\\/ "
+titleCharacters = ascii "ABCDEFGHIJKLMNOPQRSTUVWXYZ0123456789*,'=)(-.+\\/ "
+
+-- 01, *12*: "as *10* without the backslash", in the order in which 001 prints them for columns 26-43 and 47-64
+unfoldable pub nameCharacters : List ℕ
+unfolding ascii
+nameCharacters = ascii "ABCDEFGHIJKLMNOPQRSTUVWXYZ0123456789*,'=(-.+)/ "
 
 infixl 30 _or_
 pub data Set : Type 0 where
-  letter digit space printable title : Set
-  name : Set  -- 01, *12*: as *10* without the backslash
+  letter digit space printable title name : Set
   only : ℕ → Set
   _or_ : Set → Set → Set
-
-unfoldable pub isTitle : ℕ → Bool
-isTitle b = cond (isLetter b) true (cond (isDigit b) true (anyOf titleMarks b))
 
 unfoldable pub member : Set → ℕ → Bool
 member letter b = isLetter b
 member digit b = isDigit b
 member space b = isBlank b
 member printable b = isPrintable b
-member title b = isTitle b
-member name b = isTitle b & not (b =? 92)
+member title b = anyOf titleCharacters b
+member name b = anyOf nameCharacters b
 member (only c) b = isPrintable b & b =? c
 member (s or t) b = cond (member s b) true (member t b)
 

@@ -7,7 +7,7 @@ use Prim.Native.Nat.{ℕ, _+_, _-_, _*_, _≤_, _<_}
 use lib.ListN.{length, replicate, getD}
 use lib.IntN.{ℤ, pos, negsuc, negℤ}
 use Rattle.rules.specs.Members.{_∈_, _⊆_}
-use Rattle.rules.specs.Characters.{ascii, isPrintable, Set, letter, digit, space, printable, title, name, only, _or_}
+use Rattle.rules.specs.Characters.{ascii, isPrintable, titleCharacters, nameCharacters, Set, letter, digit, space, printable, title, name, only, _or_}
 use Rattle.rules.specs.Digits.{val, put}
 use Rattle.rules.specs.Items.{Value, gap, missing, num, text, label, signed, Way, columns, top, low, plus, minusOf, each, orBlank, Item, blank, constant, number, height, angle, month, media, word}
 use Rattle.rules.specs.Kinds.{*AA*, dataCodes}
@@ -19,8 +19,8 @@ charactersOf letter = ascii "ABCDEFGHIJKLMNOPQRSTUVWXYZ"
 charactersOf digit = ascii "0123456789"
 charactersOf space = ascii " "
 charactersOf printable = ascii " !\"#$%&'()*+,-./0123456789:;<=>?@ABCDEFGHIJKLMNOPQRSTUVWXYZ[\\]^_`abcdefghijklmnopqrstuvwxyz{|}~"
-charactersOf title = ascii "ABCDEFGHIJKLMNOPQRSTUVWXYZ0123456789*,'=)(-.+\\/ "
-charactersOf name = ascii "ABCDEFGHIJKLMNOPQRSTUVWXYZ0123456789*,'=)(-.+/ "
+charactersOf title = titleCharacters
+charactersOf name = nameCharacters
 charactersOf (only c) = cond (isPrintable c) (c ∷ []) []
 charactersOf (s or t) = charactersOf s ++ charactersOf t
 

@@ -25,6 +25,15 @@ pub fn specimens() -> Vec<Specimen> {
             "300 stations, 2,025 records, the *80* in falling order: nothing is wrong",
             long(),
         ),
+        Specimen::good(
+            "accepted_titles_as_printed",
+            "*10* with the 48 characters of a title as 001 prints them, names of *12* that start with the eleven marks as it prints those and end with the last eleven letters and the digits: each of them may stand there",
+            small_with(&[
+                (2, 11, "ABCDEFGHIJKLMNOPQRSTUVWXYZ0123456789*,'=)(-.+\\/                       "),
+                (3, 26, "*,'=(-.+)/ PQRSTUV"),
+                (3, 47, "WXYZ0123456789    "),
+            ]),
+        ),
     ];
     all.extend(accuracies::accepted());
     all.extend(receivers::accepted());

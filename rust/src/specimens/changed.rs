@@ -86,6 +86,12 @@ const ROWS: &[Row] = &[
         "*10*, a small letter in column 18 of the title",
     ),
     (
+        "fault_09_behind_every_title_character",
+        (9, 2, 59),
+        &[(2, 11, "ABCDEFGHIJKLMNOPQRSTUVWXYZ0123456789*,'=)(-.+\\/ a")],
+        "*10*, behind the 48 characters of a title as 001 prints them a small letter, in column 59",
+    ),
+    (
         "fault_09_month_13",
         (9, 3, 16),
         &[(3, 11, "202313")],
@@ -102,6 +108,12 @@ const ROWS: &[Row] = &[
         (9, 3, 30),
         &[(3, 30, "\\")],
         "*12*, a backslash in column 30, which only the titles may have",
+    ),
+    (
+        "fault_09_behind_every_mark_of_a_name",
+        (9, 3, 37),
+        &[(3, 26, "*,'=(-.+)/ n")],
+        "*12*, behind the eleven marks of a name as 001 prints them a small letter, in column 37",
     ),
     (
         "fault_09_survey_method",
