@@ -1,5 +1,5 @@
 // The characters of titles and of names, each compared by itself, in the order in which 001 prints them: its page can be laid beside this one
-// (02, T-06). A comment before each part of a list has the page's own words.
+// (02, T-06). Before each part of a list stands how the page has it.
 ghost use mathlib.Core.Path.{_≡_};
 ghost use Rattle.rules.specs.Tests.{all};
 ghost use Rattle.rules.specs.Characters.{anyOf, titleCharacters, nameCharacters};
@@ -63,7 +63,7 @@ const TITLE: [u8; 48] = [
 
 // 001, *12*, columns 26-43 and 47-64. The "\n" that is printed last cannot stand in a line.
 const NAME: [u8; 47] = [
-    // A..Z
+    // [A..Z,
     b'A',
     b'B',
     b'C',
@@ -90,7 +90,7 @@ const NAME: [u8; 47] = [
     b'X',
     b'Y',
     b'Z',
-    // 0..9
+    // 0..9,
     b'0',
     b'1',
     b'2',
@@ -101,17 +101,17 @@ const NAME: [u8; 47] = [
     b'7',
     b'8',
     b'9',
-    // * ,
+    // *, , ,
     b'*',
     b',',
-    // ' = ( - . +
+    // ' , =, (, -, ., +,
     b'\'',
     b'=',
     b'(',
     b'-',
     b'.',
     b'+',
-    // ) / space
+    // ) , /, space, \n].
     b')',
     b'/',
     b' ',
