@@ -34,6 +34,7 @@ extern "C" {
 #define SHELF_FIELD_ANSWER 2
 #define SHELF_WRITE_ANSWER 3
 #define SHELF_PAD_ANSWER 4
+#define SHELF_PULL_ANSWER 3
 #define SHELF_TABLE_WORDS 12000
 
 /* A missing height, in what shelf_read gives and shelf_write takes: only an
@@ -135,6 +136,27 @@ void shelf_write(uint8_t *out, size_t room,
 void shelf_pad(const uint8_t *input, size_t len,
                uint8_t *out, size_t room,
                uint32_t *answer, size_t answers);
+
+/* Puts the records of a list into out, each in house style.
+ *
+ * records: the numbers of the records asked for, from 1, in any order; one
+ * may come again. Each entry is judged by itself, as shelf_read judges it: the
+ * file is not judged as a whole.
+ * answer: number, record (always 0), column (always 0). 1 is an output below
+ * 81 bytes for each entry or a fault list of fewer places than entries, and
+ * then neither is touched. Otherwise the number is 0, whatever the entries
+ * are.
+ * out: for each entry 81 bytes, in the list's order. A good record is in house
+ * style, its sequence number 10 times its own record number; one that can't
+ * be read is 80 blanks and a line feed. Bytes beyond these stay.
+ * faults: for each entry the fault number that shelf_read answers, 0 for a
+ * good record; 13 is a record 0, above 99,999 or past the last. Places beyond
+ * these stay. */
+void shelf_pull(const uint8_t *file, size_t len,
+                const uint32_t *records, size_t entries,
+                uint8_t *out, size_t room,
+                uint32_t *faults, size_t places,
+                uint32_t *answer, size_t answers);
 
 #ifdef __cplusplus
 }

@@ -1,4 +1,4 @@
-//! The seven calls in the word form of `include/shelf.h`.
+//! The eight calls in the word form of `include/shelf.h`.
 //!
 //! The proved library and the implementations in Rust answer through this one
 //! interface, so that they are compared word by word and byte by byte.
@@ -17,6 +17,8 @@ pub const FIELD_WORDS: usize = 2;
 pub const WRITE_WORDS: usize = 3;
 /// Pad answers number, record, column and lines.
 pub const PAD_WORDS: usize = 4;
+/// Pull answers number, record and column.
+pub const PULL_WORDS: usize = 3;
 
 /// Where the kind stands in an answer of read.
 pub const KIND_WORD: usize = 3;
@@ -43,7 +45,7 @@ pub trait FileCalls {
     fn rewrite(&self, file: &[u8], table: &mut [u32], out: &mut [u8], answer: &mut [u32]);
 }
 
-/// All seven calls.
+/// All eight calls.
 pub trait Calls: FileCalls {
     fn read(&self, file: &[u8], record: u32, answer: &mut [i64]);
 
@@ -54,4 +56,14 @@ pub trait Calls: FileCalls {
     fn write(&self, out: &mut [u8], values: &[i64], texts: [&[u8]; 3], answer: &mut [u32]);
 
     fn pad(&self, input: &[u8], out: &mut [u8], answer: &mut [u32]);
+
+    /// `records` are the entries of the list; `faults` is the fault list.
+    fn pull(
+        &self,
+        file: &[u8],
+        records: &[u32],
+        out: &mut [u8],
+        faults: &mut [u32],
+        answer: &mut [u32],
+    );
 }

@@ -2,6 +2,7 @@
 //! same files.
 
 mod padding;
+mod pulling;
 
 use crate::plain::{form, references, rewrite, Checked, Fault};
 use std::fs;
@@ -30,6 +31,7 @@ pub fn page() -> io::Result<Vec<u8>> {
     compare(out, data, "dress_house.bfile", "dress_other.bfile")?;
     compare(out, data, "dress_house.bfile", "dress_other_meaning.bfile")?;
     padding::inputs(out, data)?;
+    pulling::lists(out, data)?;
     Ok(page)
 }
 
@@ -67,6 +69,17 @@ fn show_judged(out: &mut impl Write, file: &[u8], table: &mut [u32]) -> io::Resu
 fn show_references(out: &mut impl Write, file: &[u8], table: &mut [u32]) -> io::Result<()> {
     write!(out, "references ")?;
     show_fault(out, references(file, table))
+}
+
+/// How many bytes of a lent output are no longer what it was filled with.
+fn show_changed(out: &mut impl Write, output: &[u8]) -> io::Result<()> {
+    let room = output.len();
+    let changed = output.iter().filter(|&&byte| byte != BYTE).count();
+    let kept = room - changed;
+    writeln!(
+        out,
+        "bytes of the output: {changed} changed, {kept} of {room} unchanged"
+    )
 }
 
 fn show_fault(out: &mut impl Write, fault: Fault) -> io::Result<()> {

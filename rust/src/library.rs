@@ -1,11 +1,11 @@
 //! The proved library, called safely.
 //!
-//! [`Library`] has the seven calls in the word form of `include/shelf.h`; the
+//! [`Library`] has the eight calls in the word form of `include/shelf.h`; the
 //! functions below it give the same answers as values, for the command line.
 
 use crate::calls::{
     Calls, FileCalls, FIELD_WORDS, FIRST_VALUE_WORD, FORM_WORDS, KIND_WORD, NO_SEQUENCE, PAD_WORDS,
-    READ_WORDS, REFERENCES_WORDS, REWRITE_WORDS, SEQUENCE_WORD, WRITE_WORDS,
+    PULL_WORDS, READ_WORDS, REFERENCES_WORDS, REWRITE_WORDS, SEQUENCE_WORD, WRITE_WORDS,
 };
 
 /// Words of the station table.
@@ -72,6 +72,18 @@ extern "C" {
         len: usize,
         out: *mut u8,
         room: usize,
+        answer: *mut u32,
+        answers: usize,
+    );
+    fn shelf_pull(
+        file: *const u8,
+        len: usize,
+        records: *const u32,
+        entries: usize,
+        out: *mut u8,
+        room: usize,
+        faults: *mut u32,
+        places: usize,
         answer: *mut u32,
         answers: usize,
     );
@@ -174,6 +186,30 @@ impl Calls for Library {
             )
         }
     }
+
+    fn pull(
+        &self,
+        file: &[u8],
+        records: &[u32],
+        out: &mut [u8],
+        faults: &mut [u32],
+        answer: &mut [u32],
+    ) {
+        unsafe {
+            shelf_pull(
+                file.as_ptr(),
+                file.len(),
+                records.as_ptr(),
+                records.len(),
+                out.as_mut_ptr(),
+                out.len(),
+                faults.as_mut_ptr(),
+                faults.len(),
+                answer.as_mut_ptr(),
+                answer.len(),
+            )
+        }
+    }
 }
 
 /// Number, record and column; number 0 is acceptance.
@@ -248,10 +284,24 @@ pub fn form(file: &[u8]) -> Verdict {
 
 /// Judges a file's references.
 pub fn references(file: &[u8]) -> Fault {
+    referred(file).0
+}
+
+/// Judges a file's references, and gives the table that it leaves.
+fn referred(file: &[u8]) -> (Fault, Vec<u32>) {
     let mut table = vec![0; TABLE_WORDS];
     let mut answer = [0; REFERENCES_WORDS];
     Library.references(file, &mut table, &mut answer);
-    Fault::of(answer)
+    (Fault::of(answer), table)
+}
+
+/// The table of an accepted file, or the file's first fault.
+pub fn table(file: &[u8]) -> Result<Vec<u32>, Fault> {
+    match referred(file) {
+        (Fault { number: 0, .. }, table) => Ok(table),
+        (Fault { number: 14, .. }, _) => Err(form(file).fault),
+        (fault, _) => Err(fault),
+    }
 }
 
 /// Judges a file's form and, where that is good, its references: what rewrite
@@ -320,4 +370,15 @@ pub fn pad(input: &[u8]) -> (Padding, Vec<u8>) {
     out.truncate(LINE * lines as usize);
     let fault = Fault::of([number, record, column]);
     (Padding { fault, lines }, out)
+}
+
+/// Gives the records of a list in house style, 81 bytes each in the list's
+/// order, and the fault number of each: a record that can't be read has a
+/// blank line. What it lends is never too short, so a pull is never refused.
+pub fn pull(file: &[u8], records: &[u32]) -> (Vec<u8>, Vec<u32>) {
+    let mut answer = [0; PULL_WORDS];
+    let mut out = vec![0; LINE * records.len()];
+    let mut faults = vec![0; records.len()];
+    Library.pull(file, records, &mut out, &mut faults, &mut answer);
+    (out, faults)
 }

@@ -1,22 +1,25 @@
-//! Form, references, read, write, rewrite, the padding step and the deposit
-//! sheet, as the paper and the requests have them.
+//! Form, references, read, write, rewrite, the padding step, the pull list and
+//! the deposit sheet, as the paper and the requests have them.
 //!
 //! From below: `fields` reads and writes one field, `layout` says which
 //! fields a record has, `pointing` finds the column to name of a bad field,
 //! `records` handles one record by itself, `walk` handles a whole file,
-//! `padding` fills the lines of one that is not judged yet, `sheet` prints,
-//! `words` puts answers into the form of the library's header.
+//! `padding` fills the lines of one that is not judged yet, `pulling` gives the
+//! records of a list, `sheet` prints, `words` puts answers into the form of the
+//! library's header.
 
 pub mod fields;
 pub mod layout;
 mod padding;
 mod pointing;
+mod pulling;
 mod records;
 mod sheet;
 mod walk;
 mod words;
 
 pub use padding::{pad, Padded};
+pub use pulling::pull;
 pub use records::{field, read, write, Reading};
 pub use sheet::sheet;
 pub use walk::{form, references, rewrite};
@@ -53,7 +56,7 @@ impl Fault {
         column: 0,
     };
 
-    /// Fault 1: a lent table or output is too short.
+    /// Fault 1: a lent table, output or fault list is too short.
     pub const TOO_SHORT: Fault = Fault {
         number: 1,
         record: 0,

@@ -8,11 +8,13 @@ mod accepted;
 mod accuracies;
 mod changed;
 mod inputs;
+mod pulls;
 mod receivers;
 mod refused;
 mod survey;
 
 pub use inputs::{inputs, Input};
+pub use pulls::{Pull, PULLS};
 
 /// A whole file to try.
 pub struct Specimen {
@@ -63,7 +65,7 @@ impl Specimen {
 }
 
 /// The page beside the files: a row for each whole file, then one for each
-/// input of the padding step.
+/// input of the padding step, then one for each list of records to pull.
 pub fn page(all: &[Specimen], inputs: &[Input]) -> String {
     let mut page = String::from(HEAD);
     for one in all {
@@ -76,6 +78,10 @@ pub fn page(all: &[Specimen], inputs: &[Input]) -> String {
     }
     page.push_str(INPUTS_HEAD);
     for one in inputs {
+        page.push_str(&one.row());
+    }
+    page.push_str(PULLS_HEAD);
+    for one in &PULLS {
         page.push_str(&one.row());
     }
     page
@@ -101,4 +107,13 @@ Refusal 1 is tried on `padding_trimmed_cr_lf.bfile`, with an output of 2,672 byt
 
 | input | fault | record | column | lines | fault of form | record | column | fault of references | what is in it, and why |
 |---|---|---|---|---|---|---|---|---|---|
+";
+
+const PULLS_HEAD: &str = "
+## The records pulled
+
+Each row is a list of record numbers, pulled from one of the whole files above. The fault number of each entry is the rule paper's for a record by itself, found by hand; the same test holds this table against the plain implementation, and the program prints the fault list, with the places behind the entries as they were, and the lines in the same order. A good record's line is its house style under 10 times its own number, any other's 80 blanks.
+
+| file | records | bytes lent | places lent | fault | fault numbers | why |
+|---|---|---|---|---|---|---|
 ";

@@ -1,4 +1,4 @@
-//! The seven symbols of `include/shelf.h` over the plain implementation, so
+//! The eight symbols of `include/shelf.h` over the plain implementation, so
 //! that everything above the library can be built and tested where its
 //! archive cannot be linked. It proves nothing.
 
@@ -134,6 +134,30 @@ unsafe extern "C" fn shelf_pad(
     Plain.pad(
         from_raw_parts(input, len),
         from_raw_parts_mut(out, room),
+        from_raw_parts_mut(answer, answers),
+    );
+}
+
+/// # Safety
+/// As `include/shelf.h` says.
+#[no_mangle]
+unsafe extern "C" fn shelf_pull(
+    file: *const u8,
+    len: usize,
+    records: *const u32,
+    entries: usize,
+    out: *mut u8,
+    room: usize,
+    faults: *mut u32,
+    places: usize,
+    answer: *mut u32,
+    answers: usize,
+) {
+    Plain.pull(
+        from_raw_parts(file, len),
+        from_raw_parts(records, entries),
+        from_raw_parts_mut(out, room),
+        from_raw_parts_mut(faults, places),
         from_raw_parts_mut(answer, answers),
     );
 }

@@ -1,9 +1,9 @@
--- Two results that one promise allows are equal: the promises of the calls leave no word of an answer, a table or an output open.
+-- Two results that one promise allows are equal: the promises of the calls leave no word of an answer, a table or a fault list and no byte of an output open.
 use mathlib.Core.Path.{_≡_}
 use mathlib.Core.List.{List}
 use Prim.Native.Nat.{ℕ}
 use lib.IntN.{ℤ}
-use Rattle.answers.specs.Promise.{Forms, Refers, Rewrites, Pads, Reads, Finds, Writes}
+use Rattle.answers.specs.Promise.{Forms, Refers, Rewrites, Pads, Pulls, Reads, Finds, Writes}
 
 pub one-form : (f a b d : List ℕ) → Forms f a b → Forms f a d → b ≡ d
 one-form f a b d p q = cc
@@ -16,6 +16,9 @@ one-rewrite f t o a u p b v q d x y = (cc, cc, cc)
 
 pub one-pad : (f o a p b q d : List ℕ) → Pads f o a p b → Pads f o a q d → (p ≡ q) × (b ≡ d)
 one-pad f o a p b q d x y = (cc, cc)
+
+pub one-pull : (f rs o s a p q b u v d : List ℕ) → Pulls f rs o s a p q b → Pulls f rs o s a u v d → (p ≡ u) × (q ≡ v) × (b ≡ d)
+one-pull f rs o s a p q b u v d x y = (cc, cc, cc)
 
 pub one-read : (f : List ℕ) (r : ℕ) (a b d : List ℤ) → Reads f r a b → Reads f r a d → b ≡ d
 one-read f r a b d p q = cc

@@ -1,4 +1,4 @@
--- What the calls leave in lent memory, and the words of form, references, rewrite, pad and field.
+-- What the calls leave in lent memory, and the words of form, references, rewrite, pad, pull and field.
 use mathlib.Core.Path.{_≡_}
 use mathlib.Core.Bool.{cond}
 use mathlib.Core.List.{List, [], _∷_, _++_}

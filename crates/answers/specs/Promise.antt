@@ -7,6 +7,7 @@ use lib.IntN.{ℤ}
 use Rattle.rules.specs.Fields.{Verdict}
 use Rattle.rules.specs.Calls.{formAnswer, referencesAnswer, referencesTable, rewriteAnswer, rewriteTable, rewriteOutput, readOf, writeVerdict, writeOutput}
 use Rattle.rules.specs.Padding.{padAnswer, padOutput}
+use Rattle.rules.specs.Pulling.{pullAnswer, pullOutput, pullFaults}
 use Rattle.kinds.specs.Values.{kindNumber, sequenceValue, meaningOf, checkedOf, faultOf, readingOf, writtenOf}
 use Rattle.padding.specs.Promise.{paddedOf}
 use Rattle.answers.specs.Answers.{answered, touched, faultWords, checkedWords, paddedWords, fieldWords}
@@ -32,6 +33,12 @@ pub record Rewrites (f t o a u p b : List ℕ) : Type 0 where
 pub record Pads (f o a p b : List ℕ) : Type 0 where
   pub answer : b ≡ answered 4 (paddedWords (paddedOf (padAnswer f o))) a
   pub out : p ≡ touched 4 a (padOutput f o) o
+
+-- of a file f, a list rs of record numbers, an output o and a fault list s: the output p and the fault list q
+pub record Pulls (f rs o s a p q b : List ℕ) : Type 0 where
+  pub answer : b ≡ answered 3 (faultWords (faultOf (pullAnswer rs o s))) a
+  pub out : p ≡ touched 3 a (pullOutput f rs o s) o
+  pub faults : q ≡ touched 3 a (pullFaults f rs o s) s
 
 -- of a file f and record r
 pub record Reads (f : List ℕ) (r : ℕ) (a b : List ℤ) : Type 0 where

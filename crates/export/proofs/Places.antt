@@ -18,6 +18,7 @@ use Rattle.rules.specs.References.{tally, counts}
 use Rattle.rules.specs.Chapter4.{chapter4}
 use Rattle.rules.specs.Calls.{outcome, answer, bigTable, formAnswer, referencesOutcome, referencesAnswer, rewriteRoom, rewriteAnswer, Reading, values, unread, readAs, readOf}
 use Rattle.rules.specs.Padding.{padAnswer, padOutput}
+use Rattle.rules.specs.Pulling.{pullAnswer, pullOutput, pullFaults}
 use Rattle.rules.proofs.Truth.{both, and, to≤, of≤, to≡, cases, to-within}
 use Rattle.rules.proofs.RecordLaws.{readLine-splits, line-meant}
 use Rattle.rules.proofs.ReferenceLaws.{length-tabulate}
@@ -33,6 +34,9 @@ use Rattle.kinds.proofs.TableLaws.{each-kind}
 use Rattle.padding.specs.declared.Padded.{Padded}
 use Rattle.padding.specs.Promise.{paddedOf}
 use Rattle.padding.proofs.PadDemands.{demand-1-pad}
+use Rattle.pulling.specs.declared.Pulled.{Pulled}
+use Rattle.pulling.specs.Promise.{pulledOf}
+use Rattle.pulling.proofs.PullDemands.{demand-1-pull}
 use Rattle.answers.specs.Answers.{Small, Counted}
 use Rattle.answers.specs.Words.{deviationsOf, inRange, Told}
 
@@ -87,6 +91,12 @@ references-small f t w e = rw e (small-of (referencesOutcome (bigTable t) f) (re
 -- ---- pad
 pub pad-small : (f o : List ℕ) (v : Padded) → v ≡ paddedOf (padAnswer f o) → Small (v .fault)
 pad-small f o v e = let k = demand-1-pad f o v (padOutput f o) record { answered = e; written = refl } in record { place = omega (arith, k .place); spot = omega (arith, k .spot) }
+
+-- ---- pull
+pub pull-small : (rs o s : List ℕ) (v : Pulled) → v ≡ pulledOf (pullAnswer rs o s) → Small (v .fault)
+pull-small rs o s v e =
+    let k = demand-1-pull [] rs o s v (pullOutput [] rs o s) (pullFaults [] rs o s) record { answered = e; written = refl; numbered = refl } .place in
+    record { place = omega (arith, k .0); spot = omega (arith, k .1) }
 
 -- ---- read
 told-of : (f : List ℕ) (r : ℕ) → r < 2 ^ 32 → (y : Reading) → readOf f r ≡ y → (g : Fault) → readingOf y ≡ kinds.Reading.Refused g → Small g

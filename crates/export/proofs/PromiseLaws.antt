@@ -6,6 +6,7 @@ use lib.ListN.{length, drop, set}
 use lib.IntN.{ℤ}
 use Rattle.rules.specs.Calls.{formAnswer, referencesAnswer, referencesTable, rewriteAnswer, rewriteTable, rewriteOutput, readOf, fieldOf, writeVerdict, writeOutput}
 use Rattle.rules.specs.Padding.{padAnswer, padOutput}
+use Rattle.rules.specs.Pulling.{pullAnswer, pullOutput, pullFaults}
 use Rattle.kinds.specs.declared.Sequence.{Sequence}
 use Rattle.kinds.specs.declared.Record.{Record}
 use Rattle.kinds.specs.declared.Fault.{Fault}
@@ -15,10 +16,12 @@ use Rattle.kinds.specs.declared.Written.{Written}
 use Rattle.kinds.specs.Values.{kindNumber, sequenceValue, meaningOf, checkedOf, faultOf, readingOf, writtenOf}
 use Rattle.padding.specs.declared.Padded.{Padded}
 use Rattle.padding.specs.Promise.{paddedOf}
+use Rattle.pulling.specs.declared.Pulled.{Pulled}
+use Rattle.pulling.specs.Promise.{pulledOf}
 use Rattle.answers.specs.Answers.{touched, faultWords, checkedWords, paddedWords}
 use Rattle.answers.specs.Words.{readWords}
 use Rattle.answers.specs.Given.{given, sequenceGiven, writtenWords}
-use Rattle.answers.specs.Promise.{Forms, Refers, Rewrites, Pads, Reads, Finds, wordsVerdict, wordsOutput, Writes}
+use Rattle.answers.specs.Promise.{Forms, Refers, Rewrites, Pads, Pulls, Reads, Finds, wordsVerdict, wordsOutput, Writes}
 use Rattle.export.proofs.AnswerLaws.{short-answer, long-answer, untouched, long-touched, checked-answer, field-none, field-some}
 use Rattle.export.proofs.WordLaws.{read-answer}
 use Rattle.export.proofs.GivenLaws.{write-answer, write-left}
@@ -36,6 +39,9 @@ module _ (a : List ℕ) where
 
   pub short-pad : length a < 4 → (f o : List ℕ) → Pads f o a o a
   short-pad h f o = record { answer = short-answer 4 a h _; out = untouched 4 a h _ o }
+
+  pub short-pull : length a < 3 → (f rs o s : List ℕ) → Pulls f rs o s a o s a
+  short-pull h f rs o s = record { answer = short-answer 3 a h _; out = untouched 3 a h _ o; faults = untouched 3 a h _ s }
 
   pub short-field : length a < 2 → (f : List ℕ) (r c : ℕ) → Finds f r c a a
   short-field h f r c = record { answer = short-answer 2 a h _ }
@@ -62,6 +68,12 @@ long-rewrite f t o a h v x u y p z w e = record { answer = checked-answer a h v 
 pub long-pad : (f o a : List ℕ) → 4 ≤ length a → (v : Padded) → v ≡ paddedOf (padAnswer f o) → (p : List ℕ) → p ≡ padOutput f o
     → (w : List ℕ) → w ≡ paddedWords v → Pads f o a p (w ++ drop 4 a)
 long-pad f o a h v x p y w e = record { answer = long-answer 4 a h w _ (e ∙ ap paddedWords x); out = long-touched 4 a h p _ o y }
+
+pub long-pull : (f rs o s a : List ℕ) → 3 ≤ length a → (v : Pulled) → v ≡ pulledOf (pullAnswer rs o s) → (p : List ℕ) → p ≡ pullOutput f rs o s
+    → (q : List ℕ) → q ≡ pullFaults f rs o s → (w : List ℕ) → w ≡ faultWords (v .fault) → Pulls f rs o s a p q (w ++ drop 3 a)
+unfolding pulledOf
+long-pull f rs o s a h v x p y q z w e =
+    record { answer = long-answer 3 a h w _ (e ∙ ap (λ (u : Pulled). faultWords (u .fault)) x); out = long-touched 3 a h p _ o y; faults = long-touched 3 a h q _ s z }
 
 pub long-read : (f : List ℕ) (r : ℕ) (a : List ℤ) → 32 ≤ length a → (v : Reading) → v ≡ readingOf (readOf f r) → (w : List ℤ) → w ≡ readWords v → Reads f r a (w ++ drop 32 a)
 long-read f r a h v p w e = record { answer = read-answer a h v _ p w e }

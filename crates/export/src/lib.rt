@@ -12,13 +12,14 @@ use crate::given::give_record;
 use crate::given::give_sequence;
 use crate::readings::put_reading;
 use padding::pad;
+use pulling::pull;
 use reading::field;
 use reading::read;
 use rewriting::rewrite;
 use walk::form;
 use walk::references;
 use writing::write;
-ghost use Rattle.answers.specs.Promise.{Forms, Refers, Rewrites, Pads, Reads, Finds, Writes};
+ghost use Rattle.answers.specs.Promise.{Forms, Refers, Rewrites, Pads, Pulls, Reads, Finds, Writes};
 
 // number, record, column, and the fourteen counts.
 #[no_mangle]
@@ -66,6 +67,25 @@ pub extern "C" fn shelf_pad(input: &[u8], out: &mut [u8], answer: &mut [u32])
     }
     let v = pad(input, out);
     put_padded(&mut answer[0..4], v);
+}
+
+// number, record, column; what became of each entry stands in the fault list.
+#[no_mangle]
+pub extern "C" fn shelf_pull(
+    file: &[u8],
+    records: &[u32],
+    out: &mut [u8],
+    faults: &mut [u32],
+    answer: &mut [u32],
+)
+    ensures { λ _. ⌜ Pulls (now (file .entry)) (now (records .entry)) (now (out .entry)) (now (faults .entry)) (now (answer .entry)) (now (out .exit)) (now (faults .exit)) (now (answer .exit)) ⌝ }
+{
+    if answer.len() < 3 {
+        return;
+    }
+    let v = pull(file, records, out, faults);
+    let fault = v.fault;
+    put_fault(&mut answer[0..3], fault);
 }
 
 // Where a field starts in the file, and its width.

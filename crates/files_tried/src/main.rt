@@ -1,4 +1,4 @@
-// Runs form, references and rewrite over the whole files that its arguments name; then an accepted and a refused one with lengths that are too short; then compares files as rewritten; then pads inputs as editors leave them, and runs the three over the padded lines.
+// Runs form, references and rewrite over the whole files that its arguments name; then an accepted and a refused one with lengths that are too short; then compares files as rewritten; then pads inputs as editors leave them, and runs the three over the padded lines; then pulls records by their numbers, and compares all records of a file, pulled, with the file rewritten.
 mod compare;
 mod dress;
 mod input;
@@ -6,6 +6,7 @@ mod lengths;
 mod lent;
 mod padded;
 mod print;
+mod pulled;
 mod table;
 mod whole;
 
@@ -14,6 +15,8 @@ use input::read_file;
 use lengths::try_lengths;
 use padded::compare_inputs;
 use padded::try_inputs;
+use pulled::compare_pulls;
+use pulled::try_pulls;
 use whole::try_whole;
 
 // A file of the data: 262,144 bytes have room for 3,236 records.
@@ -47,4 +50,6 @@ fn main() {
     compare_files(b"dress_house.bfile", b"dress_other_meaning.bfile");
     try_inputs();
     compare_inputs();
+    try_pulls();
+    compare_pulls();
 }

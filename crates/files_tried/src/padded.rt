@@ -33,7 +33,7 @@ fn show_byte(b: u8) {
     text(&one);
 }
 
-fn show_lines(part: &[u8]) {
+pub(crate) fn show_lines(part: &[u8]) {
     let mut i: usize = 0;
     while i < part.len() {
         show_byte(part[i]);
@@ -128,7 +128,7 @@ fn pad_file(path: &[u8], out: &mut [u8; 65536]) {
     padding::pad(&space[..n], out);
 }
 
-fn show_differing(one: &[u8; 65536], other: &[u8; 65536]) {
+pub(crate) fn show_differing(one: &[u8; 65536], other: &[u8; 65536]) {
     text(b": bytes that differ ");
     size(bytes_differing(one, other));
     text(b"\n");

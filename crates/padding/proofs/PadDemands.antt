@@ -5,15 +5,15 @@ use mathlib.Core.Bool.{true, cond, false≢true}
 use mathlib.Core.List.{List, [], _++_}
 use Prim.Native.Nat.{ℕ, _+_, _*_, _≤_, _<_}
 use native.Mathlib.Omega.{arith}
-use lib.ListN.{length, length-drop, take, drop}
-use lib.Seq.{take-at, drop-at, take-append-le, drop-append-le}
+use lib.ListN.{length, take, drop}
+use lib.Seq.{take-at, drop-at}
 use Rattle.rules.specs.Tests.{_≤?_, _=?_}
 use Rattle.rules.specs.Members.{_∈_}
 use Rattle.rules.specs.Files.{Result, accept, refuse, isAccept, andThen, lineAt, lines, join, accepted}
 use Rattle.rules.specs.Chapter4.{chapter4}
 use Rattle.rules.specs.Padding.{linesOf, texts, padded, judgeTexts, padVerdict, PadFaults, PadPrecedes, PadFirst, PadAnswer, padAnswerBy, padAnswer, padOutput}
 use Rattle.rules.proofs.Truth.{of≤, to≤, no≤, of≢, cases, either}
-use Rattle.rules.proofs.FileLaws.{is-accept}
+use Rattle.rules.proofs.FileLaws.{is-accept, line-within}
 use Rattle.rules.proofs.PaddingLaws.{pad-first, pad-unique, pad-none, short-texts, padded-long, padded-line, accepted-pads}
 use Rattle.padding.specs.declared.Padded.{Padded}
 use Rattle.padding.specs.Promise.{paddedOf, Promised, named, Refusing, Judging}
@@ -48,12 +48,6 @@ module _ (f : List ℕ) (room : ℕ) where
   pub parts-good : judgeTexts 1 (texts f) ≡ accept → 81 * length (texts f) ≤ room → padVerdict f room ≡ accept
   unfolding padVerdict andThen
   parts-good e k = rw (e, of≤ {m = 81 * length (texts f)} {n = room} k)
-
--- a line of the first of two parts is that line of both together
-line-within : (x y : List ℕ) (i : ℕ) → 81 * i + 81 ≤ length x → lineAt (x ++ y) i ≡ lineAt x i
-unfolding lineAt
-line-within x y i h =
-    ap (take 81) (drop-append-le (81 * i) x y (omega (arith, h))) ∙ take-append-le 81 (drop (81 * i) x) y (omega (arith, h, length-drop (81 * i) x))
 
 -- ---- an answer by its numbers
 record Told (v : Padded) (n r c k : ℕ) : Type 0 where

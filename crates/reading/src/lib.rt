@@ -24,7 +24,7 @@ ghost use Rattle.reading.specs.Widths.{widthIn};
 ghost use Rattle.reading.specs.Promise.{PromisedReading, PromisedPart};
 
 // 13 is for record 0, above 99,999, and past the last.
-fn is_there(file: &[u8], record: usize) -> bool
+pub fn is_there(file: &[u8], record: usize) -> bool
     ensures { λ r. ⌜ r ≡ within 1 99_999 «record» & «record» ≤? begun (now (file .entry)) ⌝ }
 {
     ((1 <= record) & (record <= 99_999)) & (record <= count_begun(file))

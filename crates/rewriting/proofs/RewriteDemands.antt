@@ -117,19 +117,19 @@ module _ (a : List ℕ) (x : Run a) where
   unfolding rewriteRoom bigTable bigOutput
   wide = let b = both (roomy .0) in (to≤ (b .0), to≤ (b .1))
 
-  good : accepted chapter4 a ≡ true
-  good = roomy .1
+  pub its-file : accepted chapter4 a ≡ true
+  its-file = roomy .1
 
   pub its-style : styled x ≡ rewritten chapter4 a
   unfolding styled
-  its-style = writes-first a (x .table) (x .output) (x .answer) (x .table-left) (x .output-left) (wide .0) (wide .1) good (x .promised)
+  its-style = writes-first a (x .table) (x .output) (x .answer) (x .table-left) (x .output-left) (wide .0) (wide .1) its-file (x .promised)
 
   its-rest : drop (length a) (x .output-left) ≡ drop (length a) (x .output)
-  its-rest = writes-beyond a (x .table) (x .output) (x .answer) (x .table-left) (x .output-left) (wide .0) (wide .1) good (x .promised)
+  its-rest = writes-beyond a (x .table) (x .output) (x .answer) (x .table-left) (x .output-left) (wide .0) (wide .1) its-file (x .promised)
 
   -- the answer and the words go by the meaning alone
   verdict-accept : verdict chapter4 a ≡ accept
-  verdict-accept = is-accept (verdict chapter4 a) (unfold accepted in good)
+  verdict-accept = is-accept (verdict chapter4 a) (unfold accepted in its-file)
 
   its-answer : x .answer ≡ checkedOf (answer accept (meanings chapter4 a))
   its-answer = x .promised .answered ∙ (unfold rewriteAnswer outcome in rw (roomy .0, verdict-accept))
@@ -170,7 +170,7 @@ demand-3-rewrite a b x y = record {
 }
   where
     d : Demand3 a b
-    d = demand-3 a b (good a x) (good b y)
+    d = demand-3 a b (its-file a x) (its-file b y)
 
     means : meanings chapter4 (styled x) ≡ meanings chapter4 a
     means = ap (meanings chapter4) (its-style a x) ∙ d .means

@@ -5,7 +5,7 @@ use mathlib.Core.List.{List, _++_}
 use Prim.Native.Nat.{ℕ, _+_, _≤_, _<_}
 use lib.ListN.{length, drop}
 use Rattle.rules.specs.Tests.{_&_}
-use Rattle.rules.specs.Files.{Result, accept, refuse, isAccept, lines, meanings, verdict, accepted, rewritten, formedLines}
+use Rattle.rules.specs.Files.{Result, accept, refuse, isAccept, lines, join, meanings, verdict, accepted, styles, houseStyle, rewritten, formedLines}
 use Rattle.rules.specs.Calls.{outcome, bigTable, bigOutput, answer, tableLeft, outputLeft, fileAnswer, referencesTable, rewriteRoom, rewriteAnswer, rewriteTable, rewriteOutput}
 use Rattle.rules.specs.Chapter4.{chapter4}
 use Rattle.rules.proofs.Truth.{of≤, of>, cases, and-true}
@@ -62,8 +62,8 @@ module _ (f t o : List ℕ) (h : length f ≤ length o) where
         by true a = unfold outcome in a
         by false a = absurd (false≢true (unfold outcome isAccept in a))
 
-    pub roomy-output : v .fault .number ≡ 0 → (u : List ℕ) → u ≡ rewritten chapter4 f ++ drop (length f) o → u ≡ rewriteOutput f t o
-    unfolding rewriteOutput outputLeft
+    pub roomy-output : v .fault .number ≡ 0 → (u : List ℕ) → u ≡ join (styles chapter4 1 (meanings chapter4 f)) ++ drop (length f) o → u ≡ rewriteOutput f t o
+    unfolding rewriteOutput outputLeft rewritten houseStyle
     roomy-output z u q = q ∙ rw (by-table, taken z)
 
     pub kept-output : (v .fault .number ≡ 0 → ⊥) → o ≡ rewriteOutput f t o

@@ -95,7 +95,7 @@ module _ (file : List ℕ) (n : ℕ) (s : Sequence) (w : Record) (was-read : Pro
       ∙ kind-from (kindOf (codeAt line)) (codeAt line) (λ i. getD (meaning chapter4 line .values) i gap) (to≤ (both (line-meant chapter4 line is-formed) .0))
 
   -- the record's texts, as field gives them at their columns
-  same-text : (i : ℕ) → getD (textsOf (meaning chapter4 line)) i [] ≡ textAt file n w i
+  pub same-text : (i : ℕ) → getD (textsOf (meaning chapter4 line)) i [] ≡ textAt file n w i
   unfolding textAt
   same-text i = text-in-line file n (begun-there s w file n promised) reads i ∙ (unfold textColumns layout in rw same-kind refl)
 

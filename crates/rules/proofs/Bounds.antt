@@ -223,6 +223,13 @@ named-here : (R : Faults) (v : Verdict) (n c : ℕ) → v ≡ fault n c → Firs
 unfolding First
 named-here R v n c e h = (rw e at h) .0
 
+-- what read names of a line is a fault that the line has by itself
+pub read-named : (l : List ℕ) (n c : ℕ) → readLine chapter4 l ≡ fault n c → ReadFaults chapter4 l n c
+read-named l n c e = named-here _ _ n c e (first-read chapter4 sound l)
+
+pub read-refused : (l : List ℕ) (n c : ℕ) → readLine chapter4 l ≡ fault n c → (3 ≤ n) × (n ≤ 10) × (c ≤ 81)
+read-refused l n c e = omega (arith, read-bounds chapter4 placed l n c (read-named l n c e))
+
 pub unread-bounds : (f : List ℕ) (r n p c : ℕ) → readOf f r ≡ unread n p c → (r ≡ p) × (3 ≤ n) × (n ≤ 13) × (c ≤ 81)
 unfolding readOf readAs
 unread-bounds f r n p c e = cases (within 1 99_999 r & r ≤? begun f) (λ t. here _ refl (rw t at e)) (λ t. gone (rw t at e))
@@ -233,7 +240,7 @@ unread-bounds f r n p c e = cases (within 1 99_999 r & r ≤? begun f) (λ t. he
         let i : m ≡ n = cc in
         let j : r ≡ p = cc in
         let k : d ≡ c = cc in
-        omega (arith, read-bounds chapter4 placed _ m d (named-here _ _ m d z (first-read chapter4 sound (lineAt f (r - 1)))))
+        omega (arith, read-refused (lineAt f (r - 1)) m d z)
 
     gone : unread 13 r 0 ≡ unread n p c → (r ≡ p) × (3 ≤ n) × (n ≤ 13) × (c ≤ 81)
     gone q =

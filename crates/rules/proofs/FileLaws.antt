@@ -2,18 +2,18 @@
 use mathlib.Core.Path.{_≡_, refl, sym, _∙_, ap, ap₂, subst}
 use mathlib.Core.Logic.{_↔_}
 use mathlib.Core.Bool.{Bool, true, false, cond, false≢true}
-use mathlib.Core.List.{List, [], _∷_, _++_, append-assoc, map}
+use mathlib.Core.List.{List, [], _∷_, _++_, append-assoc, append-nil, map}
 use Prim.Native.Nat.{ℕ, zero, suc, _+_, _-_, _*_, _/_, _≤_, _<_}
 use native.Mathlib.Omega.{arith}
-use lib.ListN.{length, length-append, length-map, length-drop, take, drop, getD}
-use lib.Seq.{take-at, drop-at, drop-drop, length-take-le}
+use lib.ListN.{length, length-append, length-map, length-drop, take, drop, getD, take-append-drop}
+use lib.Seq.{take-at, drop-at, drop-drop, length-take-le, take-append-le, drop-append-le}
 use lib.IntN.{pos}
 use Rattle.rules.specs.Tests.{all, _&_, _≤?_, _=?_}
 use Rattle.rules.specs.Items.{num, valueOf}
 use Rattle.rules.specs.Fields.{Verdict, ok, fault, _⨾_, check, isOk}
 use Rattle.rules.specs.Records.{Edition, sequence, codeAt, judgeLine, meaning, meant}
 use Rattle.rules.specs.Files.{Result, accept, refuse, isAccept, inRecord, andThen, lineAt, begun, linesFrom, lines, join, meanings, walk, refer, verdict, accepted, styles, houseStyle, rewritten, formedLines, orderly}
-use Rattle.rules.proofs.Truth.{both, and, to≤, to≡, of≡, &-sort, true-and}
+use Rattle.rules.proofs.Truth.{both, and, to≤, to≡, of≡, map-at, &-sort, true-and}
 use Rattle.rules.proofs.FieldLaws.{isOk-⨾, isOk-check}
 use Rattle.rules.proofs.RecordLaws.{Sound, judgeLine-splits, line-meant, line-long, style-meaning, style-formed, style-length, style-number}
 
@@ -99,6 +99,27 @@ pub line-at : (f : List ℕ) (i : ℕ) → i < begun f → getD (lines f) i [] �
 unfolding lines
 line-at f i h = lines-at f (begun f) 0 i h ∙ ap (lineAt f) (omega arith)
 
+-- lines of 81 bytes that are made of the members of a list, put together: that of each stands at its place
+module _ {A : Type 0} (make : A → List ℕ) (xs : List A) (h : all isLine (map make xs) ≡ true) where
+  pub made-long : length (join (map make xs)) ≡ 81 * length xs
+  made-long = length-join (map make xs) h ∙ ap (λ n. 81 * n) (length-map xs make)
+
+  pub made-lines : lines (join (map make xs)) ≡ map make xs
+  made-lines = lines-join (map make xs) h
+
+  pub made-at : (d : A) (i : ℕ) → i < length xs → lineAt (join (map make xs)) i ≡ make (getD xs i d)
+  made-at d i k =
+      sym (line-at (join (map make xs)) i (rw as-many k)) ∙ ap (λ ls. getD ls i []) made-lines ∙ map-at make xs d [] i k
+    where
+      as-many : begun (join (map make xs)) ≡ length xs
+      as-many = sym (records (join (map make xs))) ∙ ap length made-lines ∙ length-map xs make
+
+-- a line of the first of two parts is that line of both together
+pub line-within : (x y : List ℕ) (i : ℕ) → 81 * i + 81 ≤ length x → lineAt (x ++ y) i ≡ lineAt x i
+unfolding lineAt
+line-within x y i h =
+    ap (take 81) (drop-append-le (81 * i) x y (omega (arith, h))) ∙ take-append-le 81 (drop (81 * i) x) y (omega (arith, h, length-drop (81 * i) x))
+
 -- a line of more than 80 bytes is there to its end
 pub length-take-most : (n : ℕ) (l : List ℕ) → length (take n l) ≤ n
 length-take-most zero l = omega arith
@@ -136,6 +157,36 @@ module _ (o : List ℕ) (a : ℕ) (s : List ℕ) (long : length s ≡ 81) (room 
       length-append (take a o) (s ++ drop 81 (drop a o))
       ∙ ap₂ _+_ front (length-append s (drop 81 (drop a o)) ∙ ap₂ _+_ long (length-drop 81 (drop a o) ∙ ap (λ n. n - 81) (length-drop a o)))
       ∙ omega arith
+
+-- lines laid one after another: what is laid so far, with the lines that are left, is the whole, and what stands behind is as it was
+pub record Laid (whole o₀ o : List ℕ) (i : ℕ) (left : List (List ℕ)) : Type 0 where
+  pub size : length o ≡ length o₀
+  pub laid : take (81 * i) o ++ join left ≡ whole
+  pub rest : drop (81 * i) o ≡ drop (81 * i) o₀
+
+pub laid-next : (whole o₀ o : List ℕ) (i : ℕ) (s : List ℕ) (left : List (List ℕ)) → Laid whole o₀ o i (s ∷ left) → length s ≡ 81 → 81 * i + 81 ≤ length o
+    → Laid whole o₀ (take (81 * i) o ++ (s ++ drop 81 (drop (81 * i) o))) (i + 1) left
+unfolding join
+laid-next whole o₀ o i s left g long room = record {
+  size = laid-size o (81 * i) s long room ∙ g .size;
+  laid = ap (λ (t : List ℕ). t ++ join left) begin ∙ append-assoc (take (81 * i) o) s (join left) ∙ g .laid;
+  rest = end;
+}
+  where
+    next : 81 * (i + 1) ≡ 81 * i + 81
+    next = omega arith
+
+    begin : take (81 * (i + 1)) (take (81 * i) o ++ (s ++ drop 81 (drop (81 * i) o))) ≡ take (81 * i) o ++ s
+    begin = ap (λ k. take k (take (81 * i) o ++ (s ++ drop 81 (drop (81 * i) o)))) next ∙ laid-take o (81 * i) s long room
+
+    end : drop (81 * (i + 1)) (take (81 * i) o ++ (s ++ drop 81 (drop (81 * i) o))) ≡ drop (81 * (i + 1)) o₀
+    end =
+        ap (λ k. drop k (take (81 * i) o ++ (s ++ drop 81 (drop (81 * i) o)))) next ∙ laid-drop o (81 * i) s long room
+        ∙ sym (drop-drop 81 (81 * i) o) ∙ ap (drop 81) (g .rest) ∙ drop-drop 81 (81 * i) o₀ ∙ ap (λ k. drop k o₀) (sym next)
+
+pub laid-done : (whole o₀ o : List ℕ) (i : ℕ) → Laid whole o₀ o i [] → o ≡ whole ++ drop (81 * i) o₀
+unfolding join
+laid-done whole o₀ o i g = sym (take-append-drop (81 * i) o) ∙ ap₂ _++_ (sym (append-nil (take (81 * i) o)) ∙ g .laid) (g .rest)
 
 module _ {S : Type 0} (E : Edition S) where
   -- ---- acceptance splits into a test of the lines and tests of the meaning
@@ -213,17 +264,17 @@ module _ {S : Type 0} (E : Edition S) where
       let e : lineAt f (i + 1 + n) ≡ lineAt f (i + suc n) = ap (lineAt f) (omega arith) in
       subst (λ l. 80 < length l) e (formed-last f n (i + 1) (r + 1) (both h .1))
 
-  whole-by : (f : List ℕ) (n : ℕ) → begun f ≡ n → formedLines E 1 (linesFrom f n 0) ≡ true → length f ≡ 81 * n
+  whole-by : (f : List ℕ) (n r : ℕ) → begun f ≡ n → formedLines E r (linesFrom f n 0) ≡ true → length f ≡ 81 * n
   unfolding begun
-  whole-by f zero e h = omega arith
-  whole-by f (suc n) e h =
+  whole-by f zero r e h = omega arith
+  whole-by f (suc n) r e h =
       let same : 0 + n ≡ n = omega arith in
-      let long : 80 < length f - 81 * n = reaches f n (subst (λ i. 80 < length (lineAt f i)) same (formed-last f n 0 1 h)) in
+      let long : 80 < length f - 81 * n = reaches f n (subst (λ i. 80 < length (lineAt f i)) same (formed-last f n 0 r h)) in
       omega arith
 
-  pub formed-whole : (f : List ℕ) → formedLines E 1 (lines f) ≡ true → length f ≡ 81 * length (lines f)
+  pub formed-whole : (f : List ℕ) (r : ℕ) → formedLines E r (lines f) ≡ true → length f ≡ 81 * length (lines f)
   unfolding lines
-  formed-whole f h = whole-by f (begun f) refl h ∙ ap (λ n. 81 * n) (sym (records f))
+  formed-whole f r h = whole-by f (begun f) r refl h ∙ ap (λ n. 81 * n) (sym (records f))
 
   -- ---- demand 3
   module _ (sound : Sound E) (f : List ℕ) (h : accepted E f ≡ true) where
@@ -261,10 +312,10 @@ module _ {S : Type 0} (E : Edition S) where
 
     -- an accepted file is whole lines, and so is its rewriting
     pub accepted-whole : length f ≡ 81 * length (lines f)
-    accepted-whole = formed-whole f form
+    accepted-whole = formed-whole f 1 form
 
     pub keeps-length : length (rewritten E f) ≡ length f
-    keeps-length = formed-whole (rewritten E f) (accepted-parts (rewritten E f) keeps-accepted .0) ∙ ap (λ n. 81 * n) keeps-records ∙ sym accepted-whole
+    keeps-length = formed-whole (rewritten E f) 1 (accepted-parts (rewritten E f) keeps-accepted .0) ∙ ap (λ n. 81 * n) keeps-records ∙ sym accepted-whole
 
     pub numbered-anew : (i : ℕ) → i < length (lines f) → valueOf sequence (take 6 (getD (lines (rewritten E f)) i [])) ≡ num (pos (10 * (1 + i)))
     unfolding meanings

@@ -17,6 +17,7 @@ pub mod TableLaws  -- the table as it is filled, and the counts
 pub mod Chapter4Laws  -- Chapter 4 is sound, and its order is the paper's table
 pub mod PointLaws  -- where what is read is refused with 9
 pub mod Bounds  -- the bounds of a fault's number, record and column
+pub mod PullingLaws  -- the pull list: what stands for each entry, and all records of a file
 pub mod Keeping  -- what is kept of the records before
 pub mod AgreeLaws  -- agreement is what the paper says
 pub mod Conforming  -- accepted exactly when it conforms
@@ -29,3 +30,4 @@ pub mod Follows  -- what may follow what, at every place
 pub mod Limits  -- the limits of every call, and what a refusal leaves
 pub mod CallSamples  -- every call by computation
 pub mod PaddingSamples  -- the padding step by computation
+pub mod PullingSamples  -- a pull list by computation

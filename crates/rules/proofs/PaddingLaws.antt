@@ -17,7 +17,7 @@ use Rattle.rules.specs.Chapter4.{chapter4}
 use Rattle.rules.specs.Padding.{End, lf, crlf, closing, Line, endBytes, bytesOf, EndsBefore, Lined, Reads, line, behind, joined, linesOf, texts, paddedLine, padded, judgeTexts, padVerdict, PadFaults, PadPrecedes, PadFirst, Alike, OnlyTrimmed}
 use Rattle.rules.proofs.Truth.{both, and, to≤, of≤, no≤, to≡, of≡, of≢, no≡, to-within, cases, either, all-parts, all-weaken, all-at, map-at, all-members}
 use Rattle.rules.proofs.FieldLaws.{isOk-⨾, isOk-check}
-use Rattle.rules.proofs.FileLaws.{is-accept, inRecord-accept, isLine, length-join, lines-join, records, line-at, length-take-most, accepted-parts}
+use Rattle.rules.proofs.FileLaws.{is-accept, inRecord-accept, isLine, made-long, made-lines, made-at, length-take-most, accepted-parts}
 
 -- ---- the lines of an input: one reading
 never-empty : (x : List ℕ) → [] ≡ x ++ (13 ∷ []) → ⊥
@@ -308,7 +308,7 @@ all-lines (t ∷ ts) h = and (of≡ (line-81 t (to≤ (both h .0)))) (all-lines 
 
 -- padded lines put together have 81 bytes each
 pub lines-long : (ts : List (List ℕ)) → AllShort ts → length (join (map paddedLine ts)) ≡ 81 * length ts
-lines-long ts h = length-join (map paddedLine ts) (all-lines ts h) ∙ ap (λ n. 81 * n) (length-map ts paddedLine)
+lines-long ts h = made-long paddedLine ts (all-lines ts h)
 
 module _ (f : List ℕ) (h : judgeTexts 1 (texts f) ≡ accept) where
   -- every line has at most 80 bytes, and there are at most 99,999
@@ -319,19 +319,16 @@ module _ (f : List ℕ) (h : judgeTexts 1 (texts f) ≡ accept) where
   -- the lines of the padded file are the padded lines
   pub padded-lines : lines (padded f) ≡ map paddedLine (texts f)
   unfolding padded
-  padded-lines = lines-join (map paddedLine (texts f)) (all-lines (texts f) (short-texts .0))
+  padded-lines = made-lines paddedLine (texts f) (all-lines (texts f) (short-texts .0))
 
   -- 81 bytes for every line
   pub padded-long : length (padded f) ≡ 81 * length (texts f)
   unfolding padded
   padded-long = lines-long (texts f) (short-texts .0)
 
-  padded-begun : begun (padded f) ≡ length (texts f)
-  padded-begun = sym (records (padded f)) ∙ ap length padded-lines ∙ length-map (texts f) paddedLine
-
   padded-at : (i : ℕ) → i < length (texts f) → lineAt (padded f) i ≡ paddedLine (getD (texts f) i [])
-  padded-at i k =
-      sym (line-at (padded f) i (rw padded-begun k)) ∙ ap (λ ls. getD ls i []) padded-lines ∙ map-at paddedLine (texts f) [] [] i k
+  unfolding padded
+  padded-at = made-at paddedLine (texts f) (all-lines (texts f) (short-texts .0)) []
 
   -- every line of it is its source line followed by blanks only: nothing lost, nothing else added
   pub padded-line : (i : ℕ) → i < length (texts f)

@@ -17,6 +17,7 @@ pub mod References  -- cross references, table words, counts
 pub mod Chapter4  -- the edition put together
 pub mod Faults  -- the fault numbers and their order
 pub mod Calls  -- what each call answers and leaves
+pub mod Pulling  -- 02, T-07: a pull list
 pub mod Sheet  -- the deposit sheet
 pub mod Conforms  -- what an accepted file is
 pub mod Demands  -- the demands

@@ -1,5 +1,5 @@
-//! Nanoseconds a record of form, references, rewrite and pad: the library, the
-//! plain and the tuned implementation and memcpy, in turn on the same files.
+//! Nanoseconds a record of form, references, rewrite, pad and pull: the library,
+//! the plain and the tuned implementation and memcpy, in turn on the same files.
 //!
 //! ```text
 //! bench                      every file
@@ -36,7 +36,7 @@ struct Table {
     in_memcpys: bool,
 }
 
-const TABLES: [Table; 2] = [
+const TABLES: [Table; 3] = [
     Table {
         files: &ACCEPTED,
         jobs: &JUDGING,
@@ -46,6 +46,11 @@ const TABLES: [Table; 2] = [
         files: &LINES,
         jobs: &PADDING,
         in_memcpys: true,
+    },
+    Table {
+        files: &PULLED,
+        jobs: &PULLING,
+        in_memcpys: false,
     },
 ];
 
@@ -77,6 +82,13 @@ const LINES: [(&str, Make); 3] = [
     ("trimmed, CR LF", || stripped(&accepted(1, MOST), "\r\n")),
 ];
 
+/// Of which all records are pulled, in order.
+const PULLED: [(&str, Make); 3] = [
+    ("pulled, mixed", || accepted(1, MOST)),
+    ("pulled, house", || house(accepted(1, MOST))),
+    ("pulled, small", || accepted(4, 27)),
+];
+
 fn of_kind(mostly: Mostly) -> Vec<u8> {
     accepted_mostly(5, mostly, BY_KIND)
 }
@@ -94,6 +106,7 @@ enum Job {
     References(&'static dyn FileCalls),
     Rewrite(&'static dyn FileCalls),
     Pad(&'static dyn Calls),
+    Pull(&'static dyn Calls),
 }
 
 const JUDGING: [(&str, Job); 10] = [
@@ -115,9 +128,20 @@ const PADDING: [(&str, Job); 3] = [
     ("pad plain", Job::Pad(&Plain)),
 ];
 
+/// Rewriting the same file beside it, which judges the file as a whole too.
+const PULLING: [(&str, Job); 5] = [
+    ("memcpy", Job::Memcpy),
+    ("pull library", Job::Pull(&Library)),
+    ("rewrite library", Job::Rewrite(&Library)),
+    ("pull plain", Job::Pull(&Plain)),
+    ("rewrite plain", Job::Rewrite(&Plain)),
+];
+
 /// What is given to a call.
 struct Given {
     input: Vec<u8>,
+    /// The numbers of all records, in order.
+    numbers: Vec<u32>,
     /// What the input pads to, if that is not the input itself.
     padded: Option<Vec<u8>>,
 }
@@ -128,6 +152,7 @@ impl Given {
         let lines = plain::pad(&input, &mut padded).lines as usize;
         padded.truncate(LINE * lines);
         Given {
+            numbers: (1..=lines as u32).collect(),
             padded: Some(padded).filter(|padded| *padded != input),
             input,
         }
@@ -148,6 +173,7 @@ impl Given {
 struct Lent {
     table: Vec<u32>,
     out: Vec<u8>,
+    faults: Vec<u32>,
     /// As long as the longest needs it.
     answer: [u32; REWRITE_WORDS],
 }
@@ -157,12 +183,18 @@ impl Lent {
         Lent {
             table: vec![0; TABLE_WORDS],
             out: vec![0; given.file().len()],
+            faults: vec![0; given.records()],
             answer: [0; REWRITE_WORDS],
         }
     }
 
     fn run(&mut self, job: Job, given: &Given, times: usize) {
-        let Lent { table, out, answer } = self;
+        let Lent {
+            table,
+            out,
+            faults,
+            answer,
+        } = self;
         for _ in 0..times {
             let input = black_box(&given.input);
             match job {
@@ -171,6 +203,7 @@ impl Lent {
                 Job::References(side) => side.references(input, table, answer),
                 Job::Rewrite(side) => side.rewrite(input, table, out, answer),
                 Job::Pad(side) => side.pad(input, out, answer),
+                Job::Pull(side) => side.pull(input, &given.numbers, out, faults, answer),
             }
             black_box(&out);
             black_box(&answer);
@@ -193,6 +226,7 @@ fn agrees(job: Job, given: &Given) -> bool {
         Job::References(_) => Job::References(&Plain),
         Job::Rewrite(_) => Job::Rewrite(&Plain),
         Job::Pad(_) => Job::Pad(&Plain),
+        Job::Pull(_) => Job::Pull(&Plain),
     };
     lent.answer[0] == 0 && lent == left(plain)
 }

@@ -1,13 +1,15 @@
-//! The plain shelf by hand: form, references, read, rewrite, print a sheet, make
-//! a file.
+//! The plain shelf by hand: form, references, read, pull, rewrite, print a
+//! sheet, make a file.
 
 use shelf::generate;
 use shelf::plain::layout::{FIELDS, KINDS};
-use shelf::plain::{self, Checked, Fault, MISSING, TABLE_WORDS};
+use shelf::plain::{self, Checked, Fault, COLUMNS, LINE, MISSING, TABLE_WORDS};
 use std::env;
 use std::fs;
 use std::io::{self, Write};
+use std::num::ParseIntError;
 use std::process::ExitCode;
+use std::str::FromStr;
 
 const USAGE: &str = "\
 plain form FILE
@@ -15,6 +17,7 @@ plain references FILE
 plain sheet FILE
 plain rewrite IN OUT
 plain read FILE RECORD
+plain pull FILE RECORD..
 plain generate SEED RECORDS OUT";
 
 fn main() -> ExitCode {
@@ -30,7 +33,7 @@ fn main() -> ExitCode {
     }
 }
 
-/// False when the file was refused.
+/// False when the file, or a record that was asked for, was refused.
 fn run(words: &[&str]) -> Result<bool, String> {
     match words {
         ["form", file] => {
@@ -79,16 +82,20 @@ fn run(words: &[&str]) -> Result<bool, String> {
                 }
             }
         }
+        ["pull", file, records @ ..] => {
+            let records = records.iter().map(|record| number(record));
+            let records = records.collect::<Result<Vec<u32>, String>>()?;
+            Ok(print_pulled(&load(file)?, &records))
+        }
         ["generate", seed, records, to] => {
-            let records = number(records)? as usize;
-            store(to, &generate::accepted(number(seed)?, records))?;
+            store(to, &generate::accepted(number(seed)?, number(records)?))?;
             Ok(true)
         }
         _ => Err(USAGE.to_string()),
     }
 }
 
-fn number(word: &str) -> Result<u64, String> {
+fn number<T: FromStr<Err = ParseIntError>>(word: &str) -> Result<T, String> {
     word.parse().map_err(|trouble| format!("{word}: {trouble}"))
 }
 
@@ -143,4 +150,16 @@ fn print_reading(file: &[u8], record: u64, reading: &plain::Reading) {
         let held = String::from_utf8_lossy(&file[offset..offset + length]);
         println!("field {} width {length} [{held}]", row.first);
     }
+}
+
+/// Each line with its fault number behind a bar. False when one was refused.
+fn print_pulled(file: &[u8], records: &[u32]) -> bool {
+    let mut out = vec![0; LINE * records.len()];
+    let mut faults = vec![0; records.len()];
+    plain::pull(file, records, &mut out, &mut faults);
+    for (line, number) in out.chunks(LINE).zip(&faults) {
+        let line = String::from_utf8_lossy(&line[..COLUMNS]);
+        println!("{line}| fault {number}");
+    }
+    faults.iter().all(|&number| number == 0)
 }

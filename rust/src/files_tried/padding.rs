@@ -1,6 +1,6 @@
 //! What is printed of the padding step.
 
-use super::{differing, rewritten, show_checked, show_fault, show_judged, BYTE};
+use super::{differing, rewritten, show_changed, show_checked, show_fault, show_judged, BYTE};
 use crate::plain::{pad, rewrite, LINE, TABLE_WORDS};
 use crate::specimens;
 use std::fs;
@@ -40,12 +40,7 @@ fn lent(out: &mut impl Write, data: &Path, name: &str, room: usize) -> io::Resul
     write!(out, "pad ")?;
     show_fault(out, padded.fault)?;
     writeln!(out, "lines {}", padded.lines)?;
-    let changed = output.iter().filter(|&&byte| byte != BYTE).count();
-    let kept = room - changed;
-    writeln!(
-        out,
-        "bytes of the output: {changed} changed, {kept} of {room} unchanged"
-    )?;
+    show_changed(out, &output)?;
     if padded.fault.number == 0 {
         show_padded(out, &output[..padded.lines as usize * LINE])?;
     }

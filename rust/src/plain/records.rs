@@ -233,12 +233,18 @@ fn read_line(rest: &[u8]) -> Result<Reading, At> {
     })
 }
 
+/// Where a record starts that has a number from 1, in bytes from the file's
+/// first.
+pub(super) fn start_of(record: u64) -> usize {
+    LINE * (record as usize - 1)
+}
+
 /// The file from the first byte of a record on, if that record has begun.
 fn rest_from(file: &[u8], record: u64) -> Option<&[u8]> {
     if record == 0 || record > LAST_RECORD {
         return None;
     }
-    let start = LINE * (record as usize - 1);
+    let start = start_of(record);
     if start < file.len() {
         Some(&file[start..])
     } else {
@@ -254,8 +260,7 @@ pub fn field(file: &[u8], record: u64, column: u64) -> (usize, usize) {
     };
     for field in FIELDS[reading.kind] {
         if field.first as u64 == column {
-            let start = LINE * (record as usize - 1);
-            return (start + field.first - 1, field.width);
+            return (start_of(record) + field.first - 1, field.width);
         }
     }
     (0, 0)

@@ -1,10 +1,10 @@
 //! The plain shelf in the word form of the library's header.
 
-use super::{field, form, pad, read, references, rewrite, write, Checked, Fault, LINE};
+use super::{field, form, pad, pull, read, references, rewrite, write, Checked, Fault, LINE};
 use crate::calls::{
     Calls, FileCalls, FIELD_WORDS, FIRST_GIVEN_VALUE, FIRST_VALUE_WORD, FORM_WORDS, KIND_WORD,
-    NO_KIND, NO_SEQUENCE, PAD_WORDS, READ_WORDS, REFERENCES_WORDS, REWRITE_WORDS, SEQUENCE_WORD,
-    WRITE_WORDS,
+    NO_KIND, NO_SEQUENCE, PAD_WORDS, PULL_WORDS, READ_WORDS, REFERENCES_WORDS, REWRITE_WORDS,
+    SEQUENCE_WORD, WRITE_WORDS,
 };
 
 /// The plain implementation behind the interface it shares with the library.
@@ -77,6 +77,19 @@ impl Calls for Plain {
             let padded = pad(input, out);
             let [number, record, column] = fault_words(&padded.fault);
             answer.copy_from_slice(&[number, record, column, padded.lines]);
+        }
+    }
+
+    fn pull(
+        &self,
+        file: &[u8],
+        records: &[u32],
+        out: &mut [u8],
+        faults: &mut [u32],
+        answer: &mut [u32],
+    ) {
+        if let Some(answer) = answer.get_mut(..PULL_WORDS) {
+            answer.copy_from_slice(&fault_words(&pull(file, records, out, faults)));
         }
     }
 }

@@ -1,5 +1,5 @@
-//! Files to try, by family; form, references, rewrite and read are tried on
-//! each.
+//! Files to try, by family; form, references, rewrite, read and pull are tried
+//! on each.
 //!
 //! A family hands over each of its files with the number of a record: the one
 //! that was changed, or one about where the file was.

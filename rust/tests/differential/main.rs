@@ -1,7 +1,7 @@
 //! The library, the tuned and the plain implementation, called alike and
-//! compared: every answer, every word of a table, every byte of an output, and
-//! what stands behind each of them. `cargo test --release` runs it on all
-//! cores.
+//! compared: every answer, every word of a table or fault list, every byte of
+//! an output, and what stands behind each of them. `cargo test --release` runs
+//! it on all cores.
 
 mod field;
 mod files;
@@ -11,6 +11,7 @@ mod lent;
 mod limits;
 mod pad;
 mod pointing;
+mod pull;
 mod read;
 mod rewrite;
 mod sides;
@@ -44,8 +45,10 @@ mod least {
     pub const PAD_PUT_IN: u64 = 600_000;
     pub const PAD_CUT: u64 = 640_000;
     pub const PAD_RANDOM: u64 = 340_000;
+    pub const PULL_LENT: u64 = 95_000;
+    pub const PULL_RANDOM: u64 = 175_000;
 
-    /// Form, references, rewrite and read each try these families.
+    /// Form, references, rewrite, read and pull each try these families.
     const OF_FILES: u64 = EVERY_BYTE
         + FILLED
         + ANGLES
@@ -56,7 +59,7 @@ mod least {
         + DAMAGED
         + CUT
         + ORDER;
-    const ALL: u64 = 4 * OF_FILES
+    const ALL: u64 = 5 * OF_FILES
         + READ_RECORDS
         + 3 * CHARACTERS
         + BEGINNINGS
@@ -65,7 +68,8 @@ mod least {
         + WRITE_WORDS
         + WRITE_TEXTS
         + WRITE_MIXED
-        + PAD;
+        + PAD
+        + PULL;
     const PAD: u64 = PAD_ENDS
         + PAD_LENGTHS
         + PAD_DISTANCES
@@ -74,5 +78,7 @@ mod least {
         + PAD_PUT_IN
         + PAD_CUT
         + PAD_RANDOM;
-    const _: () = assert!(ALL > 8_000_000 && PAD > 1_000_000);
+    const PULL: u64 = PULL_LENT + PULL_RANDOM;
+    const _: () = assert!(ALL > 10_000_000 && PAD > 1_000_000);
+    const _: () = assert!(OF_FILES + PULL > 1_000_000);
 }

@@ -2,7 +2,7 @@
 
 use crate::files::Family;
 use shelf::calls::{
-    Calls, FileCalls, FIELD_WORDS, FORM_WORDS, PAD_WORDS, READ_WORDS, REFERENCES_WORDS,
+    Calls, FileCalls, FIELD_WORDS, FORM_WORDS, PAD_WORDS, PULL_WORDS, READ_WORDS, REFERENCES_WORDS,
     REWRITE_WORDS, WRITE_WORDS,
 };
 use shelf::library::Library;
@@ -34,6 +34,7 @@ const FORM_NOT_GOOD: u32 = 14;
 pub struct Sides {
     tables: [Vec<u32>; 3],
     outs: [Vec<u8>; 3],
+    fault_lists: [Vec<u32>; 2],
     /// How many calls were compared.
     cases: u64,
     /// How often each fault came, by number, kind of its record and column.
@@ -47,6 +48,7 @@ impl Sides {
         Sides {
             tables: [const { Vec::new() }; 3],
             outs: [const { Vec::new() }; 3],
+            fault_lists: [const { Vec::new() }; 2],
             cases: 0,
             places: vec![[[0; LINE + 1]; NO_KIND + 1]; NUMBERS],
             not_formed: [0; NUMBERS],
@@ -260,6 +262,51 @@ impl Sides {
         let [number, _, column, lines] = self.pad_lent(input, room, PAD_WORDS + 1);
         self.places[number as usize][NO_KIND][column as usize] += 1;
         &self.outs[1][..LINE * lines as usize]
+    }
+
+    /// Pull with so many bytes of output, places of a fault list and words of
+    /// an answer. Gives the first words of the answer, if there was room for
+    /// them.
+    pub fn pull_lent(
+        &mut self,
+        file: &[u8],
+        records: &[u32],
+        [room, places, answers]: [usize; 3],
+    ) -> [u32; PULL_WORDS] {
+        let mark = self.mark();
+        let mut given = [[mark; PULL_WORDS + BEYOND]; 2];
+        for side in 0..2 {
+            let out = renewed(&mut self.outs[side], room, mark as u8);
+            let faults = renewed(&mut self.fault_lists[side], places, mark);
+            OF_RECORDS[side].pull(file, records, out, faults, &mut given[side][..answers]);
+        }
+        let about = || {
+            let (entries, first) = (records.len(), &records[..records.len().min(100)]);
+            format!(
+                "pull of {entries} entries {first:?}, output of {room}, \
+                 fault list of {places}, answer of {answers} words"
+            )
+        };
+        same(file, &about, "answer", &given);
+        same(file, &about, "output", &self.outs[..2]);
+        same(file, &about, "fault list", &self.fault_lists);
+        let [number, record, column, ..] = given[1];
+        if number == 0 {
+            for (at, &record) in records.iter().enumerate() {
+                // A fault list says nothing of columns.
+                self.place(file, [self.fault_lists[1][at], record, 0]);
+            }
+        }
+        [number, record, column]
+    }
+
+    /// Pull with all that it needs and a byte, a place and a word more. Gives
+    /// the lines and the fault numbers.
+    pub fn pull(&mut self, file: &[u8], records: &[u32]) -> (&[u8], &[u32]) {
+        let (room, places) = (LINE * records.len(), records.len());
+        let answer = self.pull_lent(file, records, [room + 1, places + 1, PULL_WORDS + 1]);
+        assert_eq!(answer, [0; PULL_WORDS], "{}", keep(file));
+        (&self.outs[1][..room], &self.fault_lists[1][..places])
     }
 
     /// A number for each case, to fill what is lent with: what a call leaves

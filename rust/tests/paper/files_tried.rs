@@ -4,8 +4,8 @@
 
 use crate::sample::{columns, found, house, parts, verdict, Found, ACCEPTED};
 use shelf::files_tried::{self, folder};
-use shelf::plain::{form, pad, references, LINE, TABLE_WORDS};
-use shelf::specimens::{inputs, page, specimens};
+use shelf::plain::{form, pad, pull, references, Fault, LINE, TABLE_WORDS};
+use shelf::specimens::{inputs, page, specimens, PULLS};
 use std::collections::BTreeSet;
 use std::fs;
 
@@ -13,8 +13,8 @@ fn data(name: &str) -> Vec<u8> {
     fs::read(folder().join("data").join(name)).unwrap()
 }
 
-/// The cells of a table's rows, the file's name first. The page has two
-/// tables, the whole files' and the padding step's.
+/// The cells of a table's rows, the file's name first. The page has three
+/// tables, the whole files', the padding step's and the pulled records'.
 fn table(number: usize) -> Vec<Vec<String>> {
     let page = String::from_utf8(data("README.md")).unwrap();
     let part = page.split("\n## ").nth(number).unwrap();
@@ -110,6 +110,70 @@ fn the_table_of_inputs_says_what_is_found() {
             assert_eq!(cells[5..9], ["-"; 4], "{cells:?}");
         }
     }
+}
+
+/// The fault number of each entry, and bytes and places behind them as they
+/// were; or refusal 1, and nothing touched.
+#[test]
+fn the_table_of_lists_says_what_is_found() {
+    assert_eq!(table(2).len(), PULLS.len());
+    for list in &PULLS {
+        let file = data(&list.file_name());
+        let (room, places) = list.lent();
+        let mut out = vec![b'#'; room];
+        let mut faults = vec![77; places];
+        let fault = pull(&file, list.records, &mut out, &mut faults);
+        let (expected, numbers) = match list.faults {
+            Some(numbers) => (Fault::ACCEPTED, numbers),
+            None => (Fault::TOO_SHORT, &[][..]),
+        };
+        assert_eq!(fault, expected, "{}", list.why);
+        assert_eq!(faults[..numbers.len()], *numbers, "{}", list.why);
+        assert!(faults[numbers.len()..].iter().all(|&word| word == 77));
+        let (lines, rest) = out.split_at(LINE * numbers.len());
+        assert!(rest.iter().all(|&byte| byte == b'#'), "{}", list.why);
+        for (line, &number) in lines.chunks_exact(LINE).zip(numbers) {
+            let blank = [&[b' '; LINE - 1][..], b"\n"].concat();
+            assert_eq!(line == blank, number != 0, "{}", list.why);
+        }
+    }
+}
+
+/// Lines that were put into house style by hand.
+#[test]
+fn pulled_lines_are_as_they_should_be() {
+    let file = data("accepted_all_kinds.bfile");
+    for (record, line) in [
+        (
+            23,
+            "000230*80*0045Tuburan BM 17 (reset 1987)    11434512345N123015900000E       RP  ",
+        ),
+        (
+            24,
+            "000240*86*0045  0012345A21Y88NAMRIA-0332509  -020905B  Aleveled 2019            ",
+        ),
+        (
+            17,
+            "000170*27*99992401010005                               00000                    ",
+        ),
+        (
+            31,
+            "000310*92*0045  0012  0000000040000000003800000000000999999999    N!vector 45-12",
+        ),
+    ] {
+        let mut out = [0; LINE];
+        let mut faults = [77];
+        assert_eq!(
+            pull(&file, &[record], &mut out, &mut faults),
+            Fault::ACCEPTED
+        );
+        assert_eq!(faults, [0]);
+        assert_eq!(String::from_utf8_lossy(&out), format!("{line}\n"));
+    }
+    let file = data("fault_07_no_first_job_code.bfile");
+    let mut out = [0; LINE];
+    pull(&file, &[1], &mut out, &mut [0]);
+    assert!(out.starts_with(b"000010*10*TUBURAN BAY"));
 }
 
 #[test]

@@ -12,6 +12,7 @@ mod generated;
 mod padding;
 mod pointing;
 mod published;
+mod pulling;
 mod reading;
 mod receivers;
 mod sample;

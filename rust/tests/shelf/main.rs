@@ -13,6 +13,7 @@ mod moving;
 mod pad;
 mod places;
 mod pointing;
+mod pull;
 mod rewrite;
 mod scripts;
 mod sheet;

@@ -63,6 +63,7 @@ fn standard_output_on_a_full_disk() {
         "shelf check good.b > /dev/full",
         "shelf sheet good.b > /dev/full",
         "shelf show good.b 5 > /dev/full",
+        "shelf pull good.b 5 > /dev/full",
         "shelf help > /dev/full",
     ] {
         let ran = desk.shell(line).ended(2);

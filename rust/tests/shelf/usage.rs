@@ -22,6 +22,44 @@ fn wrong_words_end_with_2_and_say_what_is_wrong() {
             &["show", "a", "4294967296"],
             "4294967296 is no record number",
         ),
+        (
+            &["pull", "a"],
+            "pull needs a file and at least one record number",
+        ),
+        (
+            &["pull"],
+            "pull needs a file and at least one record number",
+        ),
+        (
+            &["pull", "a", "--station"],
+            "pull needs a file and at least one station number",
+        ),
+        (&["pull", "a", "x"], "x is no record number"),
+        (&["pull", "a", "1", "+2"], "+2 is no record number"),
+        (&["pull", "a", "1", ""], "is no record number"),
+        (&["pull", "a", "1-"], "1- is no record number"),
+        (&["pull", "a", "1-2-3"], "1-2-3 is no record number"),
+        (&["pull", "a", "-3"], "there is no option -3"),
+        (&["pull", "a", "--", "-3"], "-3 is no record number"),
+        (
+            &["pull", "a", "4294967296"],
+            "4294967296 is no record number",
+        ),
+        (
+            &["pull", "a", "60-40"],
+            "60-40 is no range of record numbers, which go up to 99999",
+        ),
+        (
+            &["pull", "a", "1-100000"],
+            "1-100000 is no range of record numbers, which go up to 99999",
+        ),
+        (&["pull", "a", "--station", "x"], "x is no station number"),
+        (
+            &["pull", "a", "--station", "1-10000"],
+            "1-10000 is no range of station numbers, which go up to 9999",
+        ),
+        (&["pull", "a", "1", "--replace"], "pull takes no --replace"),
+        (&["show", "a", "1", "--station"], "show takes no --station"),
         (&["rewrite", "a"], "rewrite needs two files"),
         (&["pad", "a"], "pad needs two files"),
         (&["pad", "a", "b", "c"], "pad needs two files"),
@@ -71,7 +109,9 @@ fn help_is_given_when_asked_for() {
     let desk = Desk::new("help");
     for words in [&["help"][..], &["--help"], &["-h"]] {
         let ran = desk.run(words).ended(0);
-        for verb in ["check", "sheet", "show", "pad", "rewrite", "move", "help"] {
+        for verb in [
+            "check", "sheet", "show", "pull", "pad", "rewrite", "move", "help",
+        ] {
             assert!(ran.out.contains(&format!("shelf {verb} ")));
         }
         assert!(ran.out.lines().all(|line| line.len() < 100));
@@ -88,6 +128,8 @@ fn help_on_each_command() {
         ("check", "--form "),
         ("sheet", "--pad "),
         ("show", "--pad "),
+        ("pull", "--station "),
+        ("pull", "--pad "),
         ("pad", "--replace"),
         ("rewrite", "--replace"),
         ("rewrite", "--pad "),

@@ -6,10 +6,10 @@ use Rattle.rewriting.proofs.style_lines.Statement.{statement}
 use Rattle.rewriting.proofs.style_lines.Tie as tie
 
 abbrev Inv-loop : tie.InvT-loop
-Inv-loop file out₀ n i₀ out i = Laying file out₀ n out i
+Inv-loop file first out₀ n i₀ out i = Laying file first out₀ n out i
 
 abbrev μ-loop : tie.MeasureT-loop
-μ-loop file out₀ n i₀ out i = n - i
+μ-loop file first out₀ n i₀ out i = n - i
 
 loop-holds : tie.Need-loop-holds Inv-loop μ-loop
 loop-holds c = search (lay-from, needs)

@@ -4,7 +4,9 @@
 
 use crate::names;
 use crate::trouble::Trouble;
+use shelf::library::LAST_RECORD;
 use std::ffi::{OsStr, OsString};
+use std::ops::RangeInclusive;
 use std::os::unix::ffi::OsStrExt;
 use std::path::{Path, PathBuf};
 
@@ -36,6 +38,9 @@ const fn with_file(name: &'static str, what: &'static str) -> Choice {
     Choice { name, value, what }
 }
 
+/// The greatest number that a station may have.
+const LAST_STATION: u32 = 9_999;
+
 const REPLACE: Choice = flag("--replace", "write over a file that is there");
 const QUIET: Choice = flag("--quiet", "say nothing if all went well");
 const PAD: Choice = flag(
@@ -43,7 +48,7 @@ const PAD: Choice = flag(
     "fill lines with blanks to 80 columns first; CR LF ends a line too",
 );
 
-pub const VERBS: [Verb; 7] = [
+pub const VERBS: [Verb; 8] = [
     Verb {
         name: "check",
         operands: "FILE..",
@@ -80,6 +85,24 @@ pub const VERBS: [Verb; 7] = [
         what: "one record's values",
         more: "RECORD is its number, from 1 on.\n",
         choices: &[PAD],
+    },
+    Verb {
+        name: "pull",
+        operands: "FILE RECORD..",
+        what: "records by their numbers, in house style",
+        more: "RECORD is a number from 1 on, or a range such as 40-60. Each record is judged by\n\
+               itself and comes out as a line of 80 columns, in the order in which they are\n\
+               asked for, its sequence number 10 times its own number. For one that cannot be\n\
+               read a blank line stands in its place; it is named on the error output, and the\n\
+               exit status is 1. With --station the numbers are stations', of an accepted file:\n\
+               of each its *80* and its *86* are pulled.\n",
+        choices: &[
+            flag(
+                "--station",
+                "the *80* and the *86* of the stations of these numbers",
+            ),
+            PAD,
+        ],
     },
     Verb {
         name: "pad",
@@ -133,6 +156,7 @@ pub enum Command {
     Check(Check),
     Sheet(Single),
     Show(Single, u32),
+    Pull(Pull),
     Pad(Making),
     Rewrite(Making),
     Move(Order),
@@ -157,6 +181,19 @@ pub struct Single {
     pub file: PathBuf,
     pub pad: bool,
 }
+
+/// Which records of a file are to be pulled.
+pub struct Pull {
+    pub file: PathBuf,
+    /// Their numbers, in the order in which they were asked for.
+    pub numbers: Vec<Numbers>,
+    /// The numbers are stations', not records'.
+    pub station: bool,
+    pub pad: bool,
+}
+
+/// A number, or all from one to another.
+pub type Numbers = RangeInclusive<u32>;
 
 /// Which file is to be made of which.
 pub struct Making {
@@ -229,6 +266,7 @@ fn command(verb: &'static Verb, mut words: Words) -> Result<Command, Trouble> {
             let record = record_number(&record)?;
             Ok(Command::Show(Single { file, pad }, record))
         }
+        "pull" => pull(names, &words),
         "pad" => {
             let files = exactly(names, "pad needs two files")?;
             Ok(Command::Pad(making(files, true, &words)))
@@ -244,6 +282,26 @@ fn command(verb: &'static Verb, mut words: Words) -> Result<Command, Trouble> {
             _ => Err(Trouble::usage("help takes one command")),
         },
     }
+}
+
+fn pull(mut names: Vec<PathBuf>, words: &Words) -> Result<Command, Trouble> {
+    let station = words.has("--station");
+    let (what, last) = match station {
+        true => ("station", LAST_STATION),
+        false => ("record", LAST_RECORD as u32),
+    };
+    if names.len() < 2 {
+        let what = format!("pull needs a file and at least one {what} number");
+        return Err(Trouble::usage(what));
+    }
+    let numbers = names.split_off(1);
+    let numbers = numbers.iter().map(|word| numbers_in(word, what, last));
+    Ok(Command::Pull(Pull {
+        numbers: numbers.collect::<Result<_, Trouble>>()?,
+        file: names.remove(0),
+        station,
+        pad: words.has(PAD.name),
+    }))
 }
 
 fn making([from, to]: [PathBuf; 2], pad: bool, words: &Words) -> Making {
@@ -368,12 +426,36 @@ fn exactly<const N: usize>(names: Vec<PathBuf>, what: &str) -> Result<[PathBuf; 
 }
 
 fn record_number(word: &Path) -> Result<u32, Trouble> {
-    let digits = word.to_str().unwrap_or("");
-    let plain = !digits.is_empty() && digits.bytes().all(|byte| byte.is_ascii_digit());
-    // A number above 32 bits is above every file's last record too, but it
-    // cannot be asked for.
-    digits.parse().ok().filter(|_| plain).ok_or_else(|| {
+    let number = word.to_str().and_then(number);
+    number.ok_or_else(|| {
         let word = names::shown(word);
         Trouble::usage(format!("{word} is no record number"))
     })
+}
+
+/// Digits alone. A number above 32 bits is above every file's last record too,
+/// but it cannot be asked for.
+fn number(digits: &str) -> Option<u32> {
+    let plain = !digits.is_empty() && digits.bytes().all(|byte| byte.is_ascii_digit());
+    digits.parse().ok().filter(|_| plain)
+}
+
+/// A number, or two of them with a dash between. A range ends at the last
+/// number that there can be: what is behind it is nowhere, and would be a blank
+/// line each.
+fn numbers_in(word: &Path, what: &str, last: u32) -> Result<Numbers, Trouble> {
+    let text = word.to_str().unwrap_or("");
+    let range = match text.split_once('-') {
+        Some((first, end)) => number(first).zip(number(end)),
+        None => number(text).map(|one| (one, one)),
+    };
+    let Some((first, end)) = range else {
+        let word = names::shown(word);
+        return Err(Trouble::usage(format!("{word} is no {what} number")));
+    };
+    if first > end || (first < end && end > last) {
+        let what = format!("{first}-{end} is no range of {what} numbers, which go up to {last}");
+        return Err(Trouble::usage(what));
+    }
+    Ok(first..=end)
 }
