@@ -201,7 +201,11 @@ fn stations_that_are_not_defined() {
             &[],
             lacks("station 10008") + &lacks("station 11004"),
         ),
-        (&["4294967295"], &[], lacks("station 4294967295")),
+        (
+            &["4294967295", "0"],
+            &[],
+            lacks("station 4294967295") + &lacks("station 0"),
+        ),
     ] {
         let words = [&["pull", "bay.b", "--station"], words].concat();
         let ran = desk.run(&words).ended(1);

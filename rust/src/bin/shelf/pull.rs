@@ -63,7 +63,7 @@ impl Desk<'_> {
                 Some(&point) => records.push(point..=point + 1),
             }
         }
-        for run in undefined.chunk_by(|one, next| one + 1 == *next) {
+        for run in undefined.chunk_by(|one, next| is_next(*one, *next)) {
             let stations = spelled("station", run);
             self.say(&format!("{stations}: defined by no record of this file"));
         }
@@ -98,9 +98,7 @@ impl Desk<'_> {
     /// neighbours that the file does not have in one line.
     fn name(&self, unread: &[(u32, u32)]) {
         let are_gone = |one: &(u32, u32), next: &(u32, u32)| {
-            one.1 == NO_SUCH_RECORD
-                && next.1 == NO_SUCH_RECORD
-                && one.0.checked_add(1) == Some(next.0)
+            one.1 == NO_SUCH_RECORD && next.1 == NO_SUCH_RECORD && is_next(one.0, next.0)
         };
         for run in unread.chunk_by(are_gone) {
             let records: Vec<u32> = run.iter().map(|(record, _)| *record).collect();
@@ -137,6 +135,10 @@ fn worst<T>(wrong: &[T]) -> Status {
         [] => Status::Accepted,
         _ => Status::Refused,
     }
+}
+
+fn is_next(one: u32, next: u32) -> bool {
+    one.checked_add(1) == Some(next)
 }
 
 /// "record 7" or "records 7-12".
