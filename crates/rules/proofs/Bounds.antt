@@ -1,6 +1,6 @@
 -- The bounds of a fault's number, record and column: they follow from which faults there can be, and the one that is named is one of them and the first.
-use mathlib.Core.Path.{_≡_, refl}
-use mathlib.Core.Logic.{inl, inr}
+use mathlib.Core.Path.{_≡_, refl, _∙_, ap₂}
+use mathlib.Core.Logic.{_⊎_, inl, inr}
 use mathlib.Core.Bool.{Bool, true, false}
 use mathlib.Core.List.{List, [], _∷_, map}
 use Prim.Native.Nat.{ℕ, _+_, _-_, _≤_, _<_}
@@ -230,24 +230,28 @@ read-named l n c e = named-here _ _ n c e (first-read chapter4 sound l)
 pub read-refused : (l : List ℕ) (n c : ℕ) → readLine chapter4 l ≡ fault n c → (3 ≤ n) × (n ≤ 10) × (c ≤ 81)
 read-refused l n c e = omega (arith, read-bounds chapter4 placed l n c (read-named l n c e))
 
-pub unread-bounds : (f : List ℕ) (r n p c : ℕ) → readOf f r ≡ unread n p c → (r ≡ p) × (3 ≤ n) × (n ≤ 13) × (c ≤ 81)
+-- a record that cannot be read: its line has a fault by itself, or there is no such record
+pub unread-why : (f : List ℕ) (r n p c : ℕ) → readOf f r ≡ unread n p c → (r ≡ p) × ((readLine chapter4 (lineAt f (r - 1)) ≡ fault n c) ⊎ (13 ≡ n) × (0 ≡ c))
 unfolding readOf readAs
-unread-bounds f r n p c e = cases (within 1 99_999 r & r ≤? begun f) (λ t. here _ refl (rw t at e)) (λ t. gone (rw t at e))
+unread-why f r n p c e = cases (within 1 99_999 r & r ≤? begun f) (λ t. here _ refl (rw t at e)) (λ t. gone (rw t at e))
   where
-    here : (v : Verdict) → readLine chapter4 (lineAt f (r - 1)) ≡ v → readAs r (lineAt f (r - 1)) v ≡ unread n p c → (r ≡ p) × (3 ≤ n) × (n ≤ 13) × (c ≤ 81)
+    here : (v : Verdict) → readLine chapter4 (lineAt f (r - 1)) ≡ v → readAs r (lineAt f (r - 1)) v ≡ unread n p c
+        → (r ≡ p) × ((readLine chapter4 (lineAt f (r - 1)) ≡ fault n c) ⊎ (13 ≡ n) × (0 ≡ c))
     here ok z q = let y : _≡_ {A = ℕ} 0 1 = cc in absurd (omega arith)
     here (fault m d) z q =
         let i : m ≡ n = cc in
-        let j : r ≡ p = cc in
         let k : d ≡ c = cc in
-        omega (arith, read-refused (lineAt f (r - 1)) m d z)
+        (cc, inl (z ∙ ap₂ fault i k))
 
-    gone : unread 13 r 0 ≡ unread n p c → (r ≡ p) × (3 ≤ n) × (n ≤ 13) × (c ≤ 81)
-    gone q =
-        let i : 13 ≡ n = cc in
-        let j : r ≡ p = cc in
-        let k : 0 ≡ c = cc in
-        omega arith
+    gone : unread 13 r 0 ≡ unread n p c → (r ≡ p) × ((readLine chapter4 (lineAt f (r - 1)) ≡ fault n c) ⊎ (13 ≡ n) × (0 ≡ c))
+    gone q = (cc, inr (cc, cc))
+
+pub unread-bounds : (f : List ℕ) (r n p c : ℕ) → readOf f r ≡ unread n p c → (r ≡ p) × (3 ≤ n) × (n ≤ 13) × (c ≤ 81)
+unread-bounds f r n p c e = let why = unread-why f r n p c e in omega (arith, why .0, by (why .1))
+  where
+    by : (readLine chapter4 (lineAt f (r - 1)) ≡ fault n c) ⊎ (13 ≡ n) × (0 ≡ c) → (3 ≤ n) × (n ≤ 13) × (c ≤ 81)
+    by (inl h) = omega (arith, read-refused (lineAt f (r - 1)) n c h)
+    by (inr h) = omega (arith, h .0, h .1)
 
 pub write-bounds : (room k : ℕ) (q : Value) (m : Meaning) (n c : ℕ) → writeVerdict room k q m ≡ fault n c → (1 ≤ n) × (n ≤ 10) × (c ≤ 80)
 unfolding writeVerdict

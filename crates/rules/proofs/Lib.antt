@@ -15,8 +15,8 @@ pub mod PaddingLaws  -- the padding step: one reading, the first fault, what is 
 pub mod ReferenceLaws  -- references and words
 pub mod TableLaws  -- the table as it is filled, and the counts
 pub mod Chapter4Laws  -- Chapter 4 is sound, and its order is the paper's table
-pub mod PointLaws  -- where what is read is refused with 9
 pub mod Bounds  -- the bounds of a fault's number, record and column
+pub mod PointLaws  -- where what is read is refused with 9
 pub mod PullingLaws  -- the pull list: what stands for each entry, and all records of a file
 pub mod Keeping  -- what is kept of the records before
 pub mod AgreeLaws  -- agreement is what the paper says

@@ -1,5 +1,5 @@
 -- 02, T-02, for any edition: a line or a file that is refused with 9 is refused at the column of the sentence, in the field that is named.
-use mathlib.Core.Path.{_≡_, refl, _∙_, ap, ap₂}
+use mathlib.Core.Path.{_≡_, refl, ap}
 use mathlib.Core.Logic.{_⊎_, inl, inr}
 use mathlib.Core.Bool.{Bool, true, false}
 use mathlib.Core.List.{List, [], _∷_, map}
@@ -7,16 +7,16 @@ use Prim.Native.Nat.{ℕ, _+_, _-_, _≤_, _<_}
 use native.Mathlib.Omega.{arith}
 use lib.ListN.{length, take, drop, length-drop}
 use lib.Seq.{length-take-le}
-use Rattle.rules.specs.Tests.{_&_, _≤?_, _=?_, within}
+use Rattle.rules.specs.Tests.{_≤?_, _=?_}
 use Rattle.rules.specs.Members.{_∈_}
 use Rattle.rules.specs.Items.{Value, width, good, spot}
-use Rattle.rules.specs.Fields.{Field, Expect, anything, Entry, Verdict, ok, fault, columnsOf, read, given, entriesOf, covers}
+use Rattle.rules.specs.Fields.{Field, Expect, anything, Entry, fault, columnsOf, read, given, entriesOf, covers}
 use Rattle.rules.specs.Layouts.{at}
 use Rattle.rules.specs.Records.{Meaning, Edition, sequence, codeAt, entries, meaning, judgeLine, readLine, told, judgeGiven}
 use Rattle.rules.specs.Beginnings.{NamesIn, Points}
 use Rattle.rules.specs.Files.{Result, accept, refuse, lineAt, begun, meanings, verdict}
 use Rattle.rules.specs.Faults.{Faults, _∪_, Fails, Some, ByteFaults, FieldFaults, stage, phase, Before, Precedes, First, FirstOf, LineFaults, ReadFaults, GivenFaults, RecordFaults, FormFault, ReferenceFault, HasFault, before}
-use Rattle.rules.specs.Calls.{answer, outcome, unread, readAs, readOf}
+use Rattle.rules.specs.Calls.{answer, outcome, unread, readOf}
 use Rattle.rules.specs.Chapter4.{chapter4}
 use Rattle.rules.proofs.Truth.{both, to≤, no≤, to≡, cases, either}
 use Rattle.rules.proofs.BeginningLaws.{spot-named}
@@ -25,6 +25,7 @@ use Rattle.rules.proofs.RecordLaws.{Sound}
 use Rattle.rules.proofs.FaultLaws.{first-line, first-read, first-given}
 use Rattle.rules.proofs.FileFaults.{SoundRefs, early, late-phase, first-verdict}
 use Rattle.rules.proofs.Chapter4Laws.{sound, sound-refs}
+use Rattle.rules.proofs.Bounds.{unread-why}
 
 -- ---- one field of a line that is long enough
 field-named : (f : Field) (l : List ℕ) (c : ℕ) → 1 ≤ width (f .item) → 1 ≤ f .from → f .from + width (f .item) ≤ 81 → 80 ≤ length l
@@ -184,15 +185,8 @@ answer-points enough f ms e = by enough (answer-refuses 8 (outcome enough f) ms 
 
 -- read
 pub unread-points : (f : List ℕ) (r p c : ℕ) → readOf f r ≡ unread 9 p c → Points chapter4 (lineAt f (r - 1)) c
-unfolding readOf readAs
-unread-points f r p c e = cases (within 1 99_999 r & r ≤? begun f) (λ t. here _ refl (rw t at e)) (λ t. gone (rw t at e))
+unread-points f r p c e = by (unread-why f r 9 p c e .1)
   where
-    here : (v : Verdict) → readLine chapter4 (lineAt f (r - 1)) ≡ v → readAs r (lineAt f (r - 1)) v ≡ unread 9 p c → Points chapter4 (lineAt f (r - 1)) c
-    here ok z q = let y : _≡_ {A = ℕ} 0 1 = cc in absurd (omega arith)
-    here (fault m d) z q =
-        let i : m ≡ 9 = cc in
-        let j : d ≡ c = cc in
-        read-points chapter4 sound (lineAt f (r - 1)) c (z ∙ ap₂ fault i j)
-
-    gone : unread 13 r 0 ≡ unread 9 p c → Points chapter4 (lineAt f (r - 1)) c
-    gone q = let i : _≡_ {A = ℕ} 13 9 = cc in absurd (omega arith)
+    by : (readLine chapter4 (lineAt f (r - 1)) ≡ fault 9 c) ⊎ (_≡_ {A = ℕ} 13 9) × (0 ≡ c) → Points chapter4 (lineAt f (r - 1)) c
+    by (inl h) = read-points chapter4 sound (lineAt f (r - 1)) c h
+    by (inr h) = absurd (omega (arith, h .0))

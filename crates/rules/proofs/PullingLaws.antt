@@ -1,6 +1,6 @@
 -- 02, T-07: what stands for each entry of a pull list, that a pulled record reads back as its values, and that all records of an accepted file pulled in order are the rewritten file.
 use mathlib.Core.Path.{_≡_, refl, sym, _∙_, ap, ap₂, subst}
-use mathlib.Core.Logic.{inl, inr, _↔_}
+use mathlib.Core.Logic.{inl, inr, _⊎_, _↔_}
 use mathlib.Core.Bool.{true, false, false≢true}
 use mathlib.Core.List.{List, [], _∷_, _++_, map}
 use Prim.Native.Nat.{ℕ, zero, suc, _+_, _-_, _*_, _≤_, _<_}
@@ -22,7 +22,7 @@ use Rattle.rules.specs.Pulling.{blankLine, lineFor, faultFor, pulledLine
 use Rattle.rules.proofs.Truth.{both, and, of≡, of≤, to≤, to-within, of-within, cases}
 use Rattle.rules.proofs.RecordLaws.{judgeLine-splits, readLine-splits, judged-reads, line-meant, style-meaning, style-length, style-formed, style-number}
 use Rattle.rules.proofs.FileLaws.{isLine, made-long, made-at, accepted-parts}
-use Rattle.rules.proofs.Bounds.{read-named, unread-bounds}
+use Rattle.rules.proofs.Bounds.{read-named, unread-why, unread-bounds}
 use Rattle.rules.proofs.Chapter4Laws.{sound}
 
 -- ---- what read gives of a record
@@ -87,9 +87,9 @@ module _ (f : List ℕ) (r : ℕ) (m : Meaning) (its : Taken f r m) where
       line-read g n (style chapter4 r m) t e styled-reads
       ∙ ap₂ values (style-number chapter4 sound r m can-mean (its .low) (its .high)) styled-means
 
--- a blank line does not
-blank-bad : false ≡ isOk (readLine chapter4 blankLine)
-unfolding readLine blankLine bytes check _⨾_ isOk isPrintable within codeAt known kindOf starred _&_ _≤?_ _=?_
+-- a blank line does not read: its columns 7-10 hold no code
+blank-bad : readLine chapter4 blankLine ≡ fault 6 7
+unfolding readLine blankLine bytes check _⨾_ isPrintable within codeAt known kindOf starred _&_ _≤?_ _=?_
 blank-bad = refl
 
 -- ---- one entry
@@ -141,17 +141,11 @@ unfolding _∈_
 thirteen = inr (inr (inr (inr (inr (inr (inr (inl refl)))))))
 
 unread-shown : (f : List ℕ) (r n p c : ℕ) → readOf f r ≡ unread n p c → n ∈ shown
-unfolding readOf readAs
-unread-shown f r n p c e = cases (within 1 99_999 r & r ≤? begun f) (λ t. here _ refl (rw t at e)) (λ t. gone (rw t at e))
+unread-shown f r n p c e = by (unread-why f r n p c e .1)
   where
-    here : (v : Verdict) → readLine chapter4 (lineAt f (r - 1)) ≡ v → readAs r (lineAt f (r - 1)) v ≡ unread n p c → n ∈ shown
-    here ok z k = let y : _≡_ {A = ℕ} 0 1 = cc in absurd (omega arith)
-    here (fault m d) z k =
-        let same : m ≡ n = cc in
-        subst (λ k. k ∈ shown) same (read-numbers (lineAt f (r - 1)) m d (read-named (lineAt f (r - 1)) m d z))
-
-    gone : unread 13 r 0 ≡ unread n p c → n ∈ shown
-    gone k = let same : 13 ≡ n = cc in subst (λ m. m ∈ shown) same thirteen
+    by : (readLine chapter4 (lineAt f (r - 1)) ≡ fault n c) ⊎ (13 ≡ n) × (0 ≡ c) → n ∈ shown
+    by (inl h) = read-numbers (lineAt f (r - 1)) n c (read-named (lineAt f (r - 1)) n c h)
+    by (inr h) = subst (λ m. m ∈ shown) (h .0) thirteen
 
 pub fault-shown : (f : List ℕ) (r : ℕ) → pulledFault f r ∈ shown
 unfolding pulledFault
@@ -171,10 +165,10 @@ zero-reads f r = by (readOf f r) refl
     by (unread n p c) e = unfold faultFor isRead in ((λ h. absurd (omega (arith, h, unread-bounds f r n p c e .1))), (λ h. absurd (false≢true h)))
 
 -- ---- a blank line
--- no record reads so: its columns 7-10 hold no code
+-- no record reads so
 pub blank-unread : (g : List ℕ) (n : ℕ) → within 1 99_999 n & n ≤? begun g ≡ true → lineAt g (n - 1) ≡ blankLine → readOf g n ≡ unread 6 n 7
 unfolding readOf
-blank-unread g n t e = rw (t, e) (unfold readAs readLine blankLine bytes check _⨾_ isPrintable within codeAt known kindOf starred _&_ _≤?_ _=?_ in refl)
+blank-unread g n t e = rw (t, e, blank-bad) (unfold readAs in refl)
 
 -- and no record in house style is one: it stands exactly where the fault number is not 0
 pub blank-exactly : (f : List ℕ) (r : ℕ) → (pulledLine f r ≡ blankLine) ↔ (pulledFault f r ≡ 0 → ⊥)
@@ -193,7 +187,8 @@ blank-exactly f r = by (readOf f r) refl
         not-blank : lineFor r (values q m) ≡ blankLine → ⊥
         not-blank h =
             let same : isOk (readLine chapter4 blankLine) ≡ true = ap (λ l. isOk (readLine chapter4 l)) (sym h) ∙ (unfold lineFor in styled-reads f r m its) in
-            false≢true (blank-bad ∙ same)
+            let none : isOk (readLine chapter4 blankLine) ≡ false = ap isOk blank-bad ∙ (unfold isOk in refl) in
+            false≢true (sym none ∙ same)
     by (unread n p c) e = ((λ h k. some n p c e k), (λ h. unfold lineFor in refl))
 
 -- ---- all records of an accepted file, in order
