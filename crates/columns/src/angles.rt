@@ -14,7 +14,7 @@ use crate::signs::{SplitLong, split_long, with_sign_long};
 use crate::writers::put_digits;
 
 // How many columns of digits, the largest angle, the largest of the other sign, and the two letters.
-#[derive(Drop)]
+#[derive(Clone, Copy)]
 struct Limits {
     columns: usize,
     top: u64,

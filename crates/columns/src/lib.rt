@@ -1,5 +1,7 @@
 // One field of a record, in a slice that is exactly the field's columns: judged, read and written. No function asks anything of
 // its caller, and each promise is one equation with the definitions of `rules`; what is no value of a field is told by the types.
+#![tactic(auto)]
+
 pub mod alphabets;
 pub mod angles;
 pub mod heights;
@@ -11,32 +13,32 @@ pub mod signs;
 pub mod writers;
 
 // A height in millimetres.
-#[derive(Drop)]
+#[derive(Clone, Copy)]
 pub enum Height {
     Missing,
     Mm(i32),
 }
 
 // A number.
-#[derive(Drop)]
+#[derive(Clone, Copy)]
 pub enum Count {
     Missing,
     Is(u32),
 }
 
 // Which angle.
-#[derive(Drop)]
+#[derive(Clone, Copy)]
 pub enum Way {
     Latitude,
     Longitude,
 }
 
 // Four characters.
-#[derive(Drop)]
+#[derive(Clone, Copy)]
 pub struct Four(pub u8, pub u8, pub u8, pub u8);
 
 // A media identifier.
-#[derive(Drop)]
+#[derive(Clone, Copy)]
 pub struct Media {
     pub maker: u8,
     pub day: u32,
@@ -46,7 +48,7 @@ pub struct Media {
 }
 
 // The sets of characters that words are made of.
-#[derive(Drop)]
+#[derive(Clone, Copy)]
 pub enum Set {
     Letter,
     LetterOrSpace,

@@ -46,7 +46,7 @@ pub fn all_blank(part: &[u8]) -> bool
 }
 
 // A set as two ranges and a character, so that one loop serves all such sets. What a set does not need repeats what it has.
-#[derive(Drop)]
+#[derive(Clone, Copy)]
 struct Ranges {
     low: u8,
     high: u8,

@@ -5,13 +5,13 @@ ghost use Rattle.rules.specs.Items.{signed};
 ghost use Rattle.columns.specs.Leaves.{split_of, split_long_of};
 
 // A sign, and how far from zero.
-#[derive(Drop)]
+#[derive(Clone, Copy)]
 pub enum Split {
     Plus(u32),
     Minus(u32),
 }
 
-#[derive(Drop)]
+#[derive(Clone, Copy)]
 pub enum SplitLong {
     Plus(u64),
     Minus(u64),

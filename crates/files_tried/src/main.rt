@@ -1,4 +1,6 @@
 // Runs form, references and rewrite over the whole files that its arguments name; then an accepted and a refused one with lengths that are too short; then compares files as rewritten; then pads inputs as editors leave them, and runs the three over the padded lines; then pulls records by their numbers, and compares all records of a file, pulled, with the file rewritten.
+#![tactic(auto)]
+
 mod compare;
 mod dress;
 mod input;

@@ -1,3 +1,5 @@
 // A record as it is given to write, judged.
+#![tactic(auto)]
+
 mod judging;
 pub mod records;

@@ -16,7 +16,7 @@ use columns::writers::{put_all, put_blank, put_digits, put_text};
 use columns::{Four, Media, Set, Way};
 
 // The kinds of field, with what is asked of each.
-#[derive(Drop)]
+#[derive(Clone, Copy)]
 pub enum FieldKind {
     Blank,
     Constant(u8),

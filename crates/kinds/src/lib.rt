@@ -1,4 +1,6 @@
 // The types of records and of answers. The first column and the width of each field are constants of its record's type.
+#![tactic(auto)]
+
 use columns::{Four, Height, Media};
 
 pub mod accuracies;
@@ -9,15 +11,15 @@ ghost use Rattle.rules.specs.Tests.{◌&◌};
 ghost use Rattle.rules.specs.Characters.{is_letter, letter, digit, ◌or◌, member};
 
 // Two characters.
-#[derive(Drop)]
+#[derive(Clone, Copy)]
 pub struct Two(pub u8, pub u8);
 
 // Three characters.
-#[derive(Drop)]
+#[derive(Clone, Copy)]
 pub struct Three(pub u8, pub u8, pub u8);
 
 // A sequence number: columns 1-6 of every record.
-#[derive(Drop)]
+#[derive(Clone, Copy)]
 pub enum Sequence {
     Missing,
     Number(u32),
@@ -30,7 +32,7 @@ impl Sequence {
 }
 
 // The first and the last record: a job code.
-#[derive(Drop)]
+#[derive(Clone, Copy)]
 pub struct Job {
     pub first: u8,
     pub second: u8,
@@ -60,7 +62,7 @@ impl Job {
 }
 
 // *10*, the project title.
-#[derive(Drop)]
+#[derive(Clone, Copy)]
 pub struct Title {}
 
 impl Title {
@@ -76,7 +78,7 @@ impl Title {
 }
 
 // *11*, the title continued.
-#[derive(Drop)]
+#[derive(Clone, Copy)]
 pub struct Continuation {}
 
 impl Continuation {
@@ -92,7 +94,7 @@ impl Continuation {
 }
 
 // *12*, project information; months are YYYYMM.
-#[derive(Drop)]
+#[derive(Clone, Copy)]
 pub struct Project {
     pub began: u32,
     pub ended: u32,
@@ -156,7 +158,7 @@ impl Project {
 }
 
 // *25*, an occupation of a mark.
-#[derive(Drop)]
+#[derive(Clone, Copy)]
 pub struct Occupation {
     pub station: u32,
     pub media: Media,
@@ -214,7 +216,7 @@ impl Occupation {
 }
 
 // *26*, a comment on an occupation.
-#[derive(Drop)]
+#[derive(Clone, Copy)]
 pub struct Comment {}
 
 impl Comment {
@@ -230,7 +232,7 @@ impl Comment {
 }
 
 // *27*, a measurement of an occupation; the height of the antenna is in millimetres.
-#[derive(Drop)]
+#[derive(Clone, Copy)]
 pub struct Measurement {
     pub station: u32,
     pub date: u32,
@@ -276,7 +278,7 @@ impl Measurement {
 }
 
 // *70*, an instrument.
-#[derive(Drop)]
+#[derive(Clone, Copy)]
 pub struct Instrument {
     pub instrument: u32,
     pub equipment: u32,
@@ -322,7 +324,7 @@ impl Instrument {
 }
 
 // *72*, an antenna.
-#[derive(Drop)]
+#[derive(Clone, Copy)]
 pub struct Antenna {
     pub antenna: u32,
     pub radome: Four,
@@ -368,7 +370,7 @@ impl Antenna {
 }
 
 // *80*, a control point; angles are in hundred-thousandths of a second, north and east positive.
-#[derive(Drop)]
+#[derive(Clone, Copy)]
 pub struct Point {
     pub station: u32,
     pub latitude: i64,
@@ -426,7 +428,7 @@ impl Point {
 }
 
 // *86*, the heights of a control point, each missing or so many millimetres.
-#[derive(Drop)]
+#[derive(Clone, Copy)]
 pub struct Heights {
     pub station: u32,
     pub orthometric: Height,
@@ -539,7 +541,7 @@ impl Heights {
 
 // *91*, a network accuracy: standard deviations in hundredths of a centimetre, the last one of the ellipsoid height, and the correlation of the first two
 // in hundred-millionths. Ten columns of any bytes fit 64 bits.
-#[derive(Drop)]
+#[derive(Clone, Copy)]
 pub struct Network {
     pub station: u32,
     pub north: u64,
@@ -608,7 +610,7 @@ impl Network {
 }
 
 // *92*, a local accuracy: the same between two stations.
-#[derive(Drop)]
+#[derive(Clone, Copy)]
 pub struct Local {
     pub standpoint: u32,
     pub forepoint: u32,
@@ -688,7 +690,7 @@ impl Local {
 }
 
 // *93*, the factors of horizontal and vertical variance, in thousandths.
-#[derive(Drop)]
+#[derive(Clone, Copy)]
 pub struct Factor {
     pub horizontal: u32,
     pub vertical: u32,
@@ -718,7 +720,7 @@ impl Factor {
 }
 
 // A record that was read, or is to be written: its values from column 11 on but the texts of more than four columns.
-#[derive(Drop)]
+#[derive(Clone, Copy)]
 pub enum Record {
     Job(Job),
     Title(Title),
@@ -744,7 +746,7 @@ impl Record {
 }
 
 // A refusal: 01's number, record and column. The number 0 is acceptance.
-#[derive(Drop)]
+#[derive(Clone, Copy)]
 pub struct Fault {
     pub number: u32,
     pub record: usize,
@@ -752,35 +754,35 @@ pub struct Fault {
 }
 
 // What form and rewrite answer: a fault, number 0 for acceptance, and a count of each kind of record, all 0 after a refusal.
-#[derive(Drop)]
+#[derive(Clone, Copy)]
 pub struct Checked {
     pub fault: Fault,
     pub counts: [u32; 14],
 }
 
 // What read answers.
-#[derive(Drop)]
+#[derive(Clone, Copy)]
 pub enum Reading {
     Values(Sequence, Record),
     Refused(Fault),
 }
 
 // What write answers.
-#[derive(Drop)]
+#[derive(Clone, Copy)]
 pub enum Written {
     Done,
     Refused(Fault),
 }
 
 // What is found of a line or of some of its fields: the number and column of the first fault.
-#[derive(Drop)]
+#[derive(Clone, Copy)]
 pub enum Judged {
     Good,
     Bad(u32, usize),
 }
 
 // What the records before ask of column 11.
-#[derive(Drop)]
+#[derive(Clone, Copy)]
 pub enum Expect {
     Anything,
     Same(u32),

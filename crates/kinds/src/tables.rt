@@ -10,7 +10,7 @@ use crate::{
 };
 
 // What stands in a field.
-#[derive(Drop)]
+#[derive(Clone, Copy)]
 pub enum Item {
     Blank,
     Method,
@@ -41,7 +41,7 @@ pub enum Item {
 
 // What a field must agree with: nothing; what went before in the file; an earlier field, by its first column and width, that is not after it,
 // that is missing exactly when it is blank, or that is another number.
-#[derive(Drop)]
+#[derive(Clone, Copy)]
 pub enum Bond {
     Free,
     Expected,
@@ -51,7 +51,7 @@ pub enum Bond {
 }
 
 // The bonds by name, since a table of names is not copied where it is indexed.
-#[derive(Drop)]
+#[derive(Clone, Copy)]
 pub enum Tie {
     Free,
     Expected,

@@ -1,4 +1,6 @@
 // The deposit sheet's text, laid into a lent output.
+#![tactic(auto)]
+
 mod lines;
 mod words;
 

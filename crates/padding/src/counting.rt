@@ -9,14 +9,14 @@ use crate::lines::{feed_at, text_length};
 use columns::parts::middle;
 
 // How far a walk has come, and the number of lines with those passed before.
-#[derive(Drop)]
+#[derive(Clone, Copy)]
 struct Walk {
     place: usize,
     lines: u32,
 }
 
 // A start of a line, how many lines stand before it, and how many there are in all; 0 in all where that is not told.
-#[derive(Drop)]
+#[derive(Clone, Copy)]
 pub(crate) struct Halves {
     pub(crate) start: usize,
     pub(crate) near: u32,

@@ -1,4 +1,6 @@
 // Deposits with trimmed lines: each line filled with blanks to 80 columns and ended by one line feed, into a lent output.
+#![tactic(auto)]
+
 mod counting;
 mod laying;
 mod lines;
@@ -18,7 +20,7 @@ use columns::parts::middle;
 use kinds::Fault;
 
 // The number of lines, or a fault and 0 lines.
-#[derive(Drop)]
+#[derive(Clone, Copy)]
 pub struct Padded {
     pub fault: Fault,
     pub lines: u32,

@@ -11,7 +11,7 @@ use crate::lines::{feed_at, text_length};
 use columns::parts::middle;
 
 // Lines that are still to be laid: where they start in the input, where they go in the output, how many they are.
-#[derive(Drop)]
+#[derive(Clone, Copy)]
 struct Stretch {
     from: usize,
     to: usize,
@@ -19,7 +19,7 @@ struct Stretch {
 }
 
 // The stretch whose turn it is, and the other.
-#[derive(Drop)]
+#[derive(Clone, Copy)]
 struct Stretches {
     here: Stretch,
     there: Stretch,

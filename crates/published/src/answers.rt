@@ -5,7 +5,7 @@ use crate::text::{SPACE, lay};
 use crate::whole::{lay_formed, lay_listed, lay_referred, lay_rewritten};
 use check::same;
 
-#[derive(Drop)]
+#[derive(Clone, Copy)]
 pub(crate) enum Call {
     Unknown,
     Read,

@@ -21,7 +21,7 @@ pub(crate) const SHOULD: usize = 6;
 const TAB: u8 = 9;
 
 // What an example is about: a record of its file, a first column and how many columns from there on, and the byte where they start.
-#[derive(Drop)]
+#[derive(Clone, Copy)]
 pub(crate) struct Spot {
     pub(crate) record: usize,
     pub(crate) column: usize,

@@ -1,4 +1,6 @@
 // Runs every published example through the public calls and prints what came out beside what should.
+#![tactic(auto)]
+
 mod answers;
 mod cells;
 mod faults;
@@ -19,7 +21,7 @@ use std::num::wrapping_add_u64;
 use text::{SPACE, lay, within};
 
 // How many examples were run, and how many of them came out otherwise than they should.
-#[derive(Drop)]
+#[derive(Clone, Copy)]
 struct Tally {
     run: u64,
     differ: u64,

@@ -34,7 +34,7 @@ pub(crate) fn lay_field(out: &mut [u8; SPACE], file: &[u8], spot: Spot) -> usize
 }
 
 // Where the texts of more than four columns of a record start; 0 where there is none.
-#[derive(Drop)]
+#[derive(Clone, Copy)]
 struct Texts {
     first: usize,
     second: usize,

@@ -6,7 +6,7 @@ use kinds::{
     Point, Reading, Record, Sequence, Two,
 };
 
-#[derive(Drop)]
+#[derive(Clone, Copy)]
 pub(crate) enum Value {
     Refused(Fault),
     Absent,

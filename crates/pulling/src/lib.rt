@@ -1,4 +1,6 @@
 // A pull list: for each entry of a list of record numbers its record in house style, into a lent output, and its fault number, into a lent list.
+#![tactic(auto)]
+
 ghost use Rattle.std.specs.Prelude.{◌≡◌, ◌*◌, ◌≤◌, length};
 ghost use Rattle.rules.specs.Records.{read_line};
 ghost use Rattle.rules.specs.Chapter4.{chapter4};
@@ -19,7 +21,7 @@ use reading::lines::line;
 use rewriting::style_lines;
 
 // Fault 1, or the number 0: what became of each entry stands in the fault list.
-#[derive(Drop)]
+#[derive(Clone, Copy)]
 pub struct Pulled {
     pub fault: Fault,
 }

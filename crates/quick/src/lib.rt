@@ -1,5 +1,7 @@
 // A record as a whole, quickly: each column by what may stand there in a record of its kind, then the few things that columns alone do not
 // tell. True only of a record in which the exact judge finds no fault; what is not true here goes to that judge, which names the fault.
+#![tactic(auto)]
+
 pub mod rows;
 pub mod tables;
 pub mod values;

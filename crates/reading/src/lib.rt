@@ -1,4 +1,6 @@
 // Records read: one by its number, as typed values, and a field's columns as the caller's own bytes.
+#![tactic(auto)]
+
 pub mod lines;
 pub mod values;
 pub mod widths;

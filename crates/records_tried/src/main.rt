@@ -1,4 +1,6 @@
 // Runs read, field and write over the records on standard input, refused ones too; then write over values that it must refuse.
+#![tactic(auto)]
+
 mod print;
 mod refusals;
 
@@ -7,7 +9,7 @@ use print::{number, show_fault, show_record, show_sequence, text};
 use refusals::write_refused;
 
 // Where the texts of more than four columns of a record start; 0 where there is none.
-#[derive(Drop)]
+#[derive(Clone, Copy)]
 struct Texts {
     first: usize,
     second: usize,

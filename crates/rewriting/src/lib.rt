@@ -1,4 +1,6 @@
 // An accepted file in house style, into a lent output.
+#![tactic(auto)]
+
 ghost use Rattle.std.specs.Prelude.{◌≡◌, true, ◌++◌, ◌≤◌, length, drop};
 ghost use Rattle.rules.specs.Files.{lines, join, meanings, styles, formed_lines};
 ghost use Rattle.rules.specs.Chapter4.{chapter4};

@@ -163,8 +163,8 @@ renders-formed c p (f ∷ fs) (v ∷ vs) more e h k =
     let from : f.from ≡ length p + 1 = to≡ (both (both h).0).0 ∙ e in
     let far : c + width f.item ≡ length (p ++ render f.item v) + 1 = rw (length-append p (render f.item v)) (omega (arith, render-width f v fit)) in
     and (rw (columns_rendered p f v (renders fs vs) more fit from) (render-good f.item v (lawful f.item v fit) fit))
-    (rw (regroup p f v (renders fs vs) more fit from)
-    (renders-formed (c + width f.item) (p ++ render f.item v) fs vs more far (both h).1 (fit_rest f fs v vs k)))
+    (ap (λ z. all is_formed (map (read z) fs)) (regroup p f v (renders fs vs) more fit from)
+    ∙ renders-formed (c + width f.item) (p ++ render f.item v) fs vs more far (both h).1 (fit_rest f fs v vs k))
 
 pub renders-values : (c : ℕ) (p : List ℕ) (fs : List Field) (vs : List Value) (more : List ℕ) → c ≡ length p + 1 → covers c fs ≡ true → fitting fs vs ≡ true
     → values fs (p ++ (renders fs vs ++ more)) ≡ vs
@@ -177,5 +177,5 @@ renders-values c p (f ∷ fs) (v ∷ vs) more e h k =
     let from : f.from ≡ length p + 1 = to≡ (both (both h).0).0 ∙ e in
     let far : c + width f.item ≡ length (p ++ render f.item v) + 1 = rw (length-append p (render f.item v)) (omega (arith, render-width f v fit)) in
     ap₂ ◌∷◌ (ap (value_of f.item) (columns_rendered p f v (renders fs vs) more fit from) ∙ (lawful f.item v fit).valued)
-    (rw (regroup p f v (renders fs vs) more fit from)
-    (renders-values (c + width f.item) (p ++ render f.item v) fs vs more far (both h).1 (fit_rest f fs v vs k)))
+    (ap (values fs) (regroup p f v (renders fs vs) more fit from)
+    ∙ renders-values (c + width f.item) (p ++ render f.item v) fs vs more far (both h).1 (fit_rest f fs v vs k))

@@ -288,6 +288,9 @@ module _ {S : Type 0} (E : Edition S) where
       early_14 : (n r c : ℕ) → Fourteen f n r c → phase n ≡ 1
       early_14 n r c = unfold Fourteen in λ x. ap phase x.1 ∙ (unfold phase stage ◌=?◌ ◌≤?◌ in refl)
 
+      before : (n r c n' r' c' : ℕ) → phase n ≡ 1 → phase n' ≡ 2 → Precedes n r c n' r' c'
+      before n r c n' r' c' x y = unfold Precedes in inl (omega arith)
+
       then_14 : (b : Bool) (v : Result) → cond b v (refuse 14 0 0) ≡ and_then (cond b accept (refuse 14 0 0)) v
       then_14 true v = unfold and_then in refl
       then_14 false v = unfold and_then in refl
@@ -296,7 +299,7 @@ module _ {S : Type 0} (E : Edition S) where
       in-turn =
           rw (then_14 (is_accept (form_verdict E f)) (reference_verdict E f))
           (first-and_then (Fourteen f) (ReferenceFault E f) _ _ (first_14 f (form_verdict E f) (first_form sound f)) (λ _. first_reference refs f)
-          (λ n r c n' r' c' x y. unfold Precedes in inl (omega (arith, early_14 n r c x, reference_late refs f n' r' c' y))))
+          (λ n r c n' r' c' x y. before n r c n' r' c' (early_14 n r c x) (reference_late refs f n' r' c' y)))
 
       later : (n r c : ℕ) → Fourteen f n r c ⊎ ReferenceFault E f n r c → 1 ≤ phase n
       later n r c = either (λ x. omega (arith, early_14 n r c x)) (λ x. omega (arith, reference_late refs f n r c x))

@@ -54,7 +54,7 @@ join-lines p i [] e h = refl
 join-lines p i (l ∷ ls) e h =
     let here : take 81 (drop (81 * i) (p ++ (l ++ join ls))) ≡ l = ap (take 81) (drop_at p (l ++ join ls) (81 * i) e) ∙ take_at l (join ls) 81 (to≡ (both h).0) in
     let far : length (p ++ l) ≡ 81 * (i + 1) = length-append p l ∙ omega (arith, to≡ (both h).0) in
-    ap₂ ◌∷◌ here (rw (← append_assoc) (join-lines (p ++ l) (i + 1) ls far (both h).1))
+    ap₂ ◌∷◌ here (ap (λ z. lines_from z (length ls) (i + 1)) (sym (append_assoc p l (join ls))) ∙ join-lines (p ++ l) (i + 1) ls far (both h).1)
 
 pub lines_join : (ls : List (List ℕ)) → all is_line ls ≡ true → lines (join ls) ≡ ls
 unfolding lines begun

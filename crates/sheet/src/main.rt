@@ -1,4 +1,6 @@
 // The deposit sheet: standard input to a short listing on standard output.
+#![tactic(auto)]
+
 use libc::{STDIN_FILENO, STDOUT_FILENO};
 
 // `read_full` goes on reading until the input ends or the space is full, so that it does not matter in what pieces a pipe delivers.

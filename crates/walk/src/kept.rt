@@ -7,7 +7,7 @@ use kinds::Expect;
 
 // The place in the order of records, the two characters of the first job code, the station of the group that is open, and the numbers of
 // the last *80*, *70* and *72*; 0 where there is none yet.
-#[derive(Drop)]
+#[derive(Clone, Copy)]
 pub struct Kept {
     pub place: usize,
     pub first: u8,

@@ -1,4 +1,6 @@
 // Whole files: the order of the records, what one says of another, and the lent table.
+#![tactic(auto)]
+
 pub mod kept;
 pub mod order;
 pub mod records;
@@ -21,7 +23,7 @@ use kinds::{Checked, Fault};
 use quick::tables::CLASSES;
 
 // What form and references say of one file.
-#[derive(Drop)]
+#[derive(Clone, Copy)]
 struct Both {
     form: Checked,
     references: Fault,

@@ -20,7 +20,7 @@ use quick::fits;
 use reading::lines::{count_begun, line};
 
 // What one record does to the walk.
-#[derive(Drop)]
+#[derive(Clone, Copy)]
 pub enum Stepped {
     Next(Kept),
     Fault(u32, usize),

@@ -1,5 +1,7 @@
 // One record of 81 bytes from values. The values are judged first and laid into the output only when all are good, so that a
 // refusal leaves the output as it was.
+#![tactic(auto)]
+
 use given_records::records::judge_given;
 use kinds::{Fault, Judged, Record, Sequence, Written};
 
