@@ -1,6 +1,6 @@
 -- Media identifiers and YYYYMM: the tests as the code writes them. Assumes nothing.
 use mathlib.Core.Path.{◌≡◌, refl, sym, ap, ◌∙◌}
-use mathlib.Core.Bool.{Bool, true, false, cond, ◌&&◌, ◌||◌, and_assoc, and_true}
+use mathlib.Core.Bool.{Bool, true, false, cond, ◌&&◌, ◌||◌, and_assoc, and-true}
 use mathlib.Core.List.{List, [], ◌∷◌, ◌++◌}
 use Prim.Native.Nat.{ℕ, ◌+◌, ◌/◌, ◌%◌, ◌≤◌}
 use native.Mathlib.Omega.{arith}
@@ -26,7 +26,7 @@ month_is n = sym (simp &_is)
 
 pub four_is : (t : Four) → ((leb 32 t.0 && leb t.0 126) && (leb 32 t.1 && leb t.1 126) && (leb 32 t.2 && leb t.2 126) && (leb 32 t.3 && leb t.3 126)) ≡ all is_printable (four_of t)
 unfolding all four_of is_printable within ◌≤?◌
-four_is t = sym (simp (&_is, and_true) (simp and_assoc))
+four_is t = sym (simp (&_is, and-true) (simp and_assoc))
 
 four_long : (t : Four) → (length (four_of t) =? 4) ≡ true
 unfolding four_of ◌=?◌

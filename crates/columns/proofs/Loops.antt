@@ -1,6 +1,6 @@
 -- The loops turn by turn: what is still to do from here, with what was done, is what was to do at the start. Each law is over plain lists and numbers. Assumes nothing.
 use mathlib.Core.Path.{◌≡◌, refl, sym, ◌∙◌}
-use mathlib.Core.Bool.{Bool, true, false, cond, not, ◌&&◌, ◌||◌, and_assoc, and_true, or-false}
+use mathlib.Core.Bool.{Bool, true, false, cond, not, ◌&&◌, ◌||◌, and_assoc, and-true, or-false}
 use mathlib.Core.List.{List, ◌∷◌, ◌++◌, append_assoc, append-nil}
 use Prim.Native.Nat.{ℕ, zero, suc, ◌+◌, ◌-◌, ◌*◌, ◌/◌, ◌%◌, ◌^◌, ◌≤◌, ◌<◌}
 use native.Mathlib.Nat.{le_refl, pow-suc, pow-le-pow_right}
@@ -30,7 +30,7 @@ module _ (p : ℕ → Bool) (f : List ℕ) (i : ℕ) (good : Bool) where
 
   pub all_end : length f ≤ i → (good && all p (drop i f)) ≡ good
   unfolding all
-  all_end h = rw (drop_of_length-le f h) (and_true good)
+  all_end h = rw (drop_of_length-le f h) (and-true good)
 
 -- a loop that compares with every character of a list: t is the test as the code writes it
 next_of : (found t : Bool) (rest : Bool) → ((found || t) || rest) ≡ (found || cond t true rest)

@@ -1,6 +1,6 @@
 -- Numbers and heights: the form column by column is the form, its last column tells a blank one, and whatever has the form fits its own width, so that the range decides. Assumes nothing.
 use mathlib.Core.Path.{◌≡◌, refl, sym, ap, ◌∙◌, subst}
-use mathlib.Core.Bool.{Bool, true, false, cond, not, ◌&&◌, ◌||◌, and_false, or-true, or-false, false≢true}
+use mathlib.Core.Bool.{Bool, true, false, cond, not, ◌&&◌, ◌||◌, and-false, or-true, or-false, false≢true}
 use mathlib.Core.List.{List, [], ◌∷◌}
 use Prim.Native.Nat.{ℕ, zero, suc, ◌+◌, ◌-◌, ◌^◌, ◌≤◌, ◌<◌}
 use native.Mathlib.Omega.{arith}
@@ -36,7 +36,7 @@ digits-after : (m p : ℕ) (bs : List ℕ) → is_digit p ≡ true → formed m 
 unfolding formed all ◌&◌
 digits-after m p [] h = rw (digit_no p 45 (omega arith) h)
 digits-after m p (b ∷ bs) h =
-    rw (digit_no p 32 (omega arith) h, and_false (b =? 32 || b =? m), or-false (is_digit b))
+    rw (digit_no p 32 (omega arith) h, and-false (b =? 32 || b =? m), or-false (is_digit b))
     (cases (is_digit b) (λ e. rw e (digits-after m b bs e)) (λ e. rw e))
 
 -- before the first that is no blank: a blank, the mark, or anything else
@@ -60,7 +60,7 @@ minus_next : (bs : List ℕ) → formed 45 45 bs ≡ (1 ≤? length bs & all is_
 unfolding formed all ◌&◌ ◌≤?◌ ◌=?◌
 minus_next [] = refl
 minus_next (b ∷ bs) =
-    rw (and_false (eqb b 32 || eqb b 45), or-false (is_digit b), le-leb 1 (suc (length bs)) (omega arith))
+    rw (and-false (eqb b 32 || eqb b 45), or-false (is_digit b), le-leb 1 (suc (length bs)) (omega arith))
     (cases (is_digit b) (λ d. rw d (digits-after 45 b bs d)) (λ d. rw d))
 
 minus-first : (b : ℕ) (bs : List ℕ) → b =? 32 ≡ false → b =? 45 ≡ true → formed 45 32 (b ∷ bs) ≡ formed 45 45 bs
@@ -83,7 +83,7 @@ last_from m p (b ∷ bs) h =
     ∙ cases (p =? 32) (λ e. unfold ◌&◌ is_blank in rw e) (λ e. unfold ◌&◌ is_blank in rw (e, digit_no b 32 (omega arith) (only e (both h).0)))
   where
     only : p =? 32 ≡ false → (is_digit b || (b =? 32 || b =? m) && p =? 32) ≡ true → is_digit b ≡ true
-    only e k = rw (e, and_false (b =? 32 || b =? m), or-false (is_digit b)) at k
+    only e k = rw (e, and-false (b =? 32 || b =? m), or-false (is_digit b)) at k
 
 pub last_tells : (m : ℕ) (bs : List ℕ) → formed m 32 bs ≡ true → (last_of bs =? 32) ≡ all is_blank bs
 unfolding last_of ◌&◌

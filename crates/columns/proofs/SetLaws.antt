@@ -1,6 +1,6 @@
 -- The test of a set is the set: ranges are tried below 128 one by one, by computing, and above neither holds; titles and names are compared as their lists say. Assumes nothing.
 use mathlib.Core.Path.{◌≡◌, refl, sym, ◌∙◌}
-use mathlib.Core.Bool.{Bool, true, false, and_false}
+use mathlib.Core.Bool.{Bool, true, false, and-false}
 use mathlib.Core.List.{List, [], ◌∷◌}
 use Prim.Native.Nat.{ℕ, ◌<◌}
 use native.Mathlib.Omega.{arith}
@@ -31,8 +31,8 @@ none m b h k =
       lt-leb b m.high (omega (arith, to≤ one.0)),
       lt-leb b m.top (omega (arith, to≤ two.0)),
       ne_eqb b m.one (λ e. omega (arith, e, to≤ three.0)),
-      and_false (leb m.low b),
-      and_false (leb m.bottom b),
+      and-false (leb m.low b),
+      and-false (leb m.bottom b),
     )
 
 ranged : (m : Ranges) (s : Set) → all (λ c. c ≤? 127) (ends m) ≡ true → all (λ b. same_truth (inside m b) (member (set_of s) b)) (under 128) ≡ true → (b : ℕ) → inside m b ≡ member (set_of s) b

@@ -8,7 +8,7 @@ use Prim.Native.Nat.{◌-◌}
 use lib.ListN.{length}
 use mir.Syntax.{w64}
 use mir.ValLaws.{to_z-of_z}
-use borrow.Author.Tests.{not_true, not-false}
+use borrow.Author.Tests.{not-true, not-false}
 use Rattle.rules.specs.Digits.{put}
 use Rattle.rules.specs.Items.{angle, num, fits, dms, plus, columns}
 use Rattle.columns.specs.Types.{way_of}
@@ -69,5 +69,5 @@ put-angle-spec =
     (tie.spec (λ c κs. search rules) (λ c. omega (arith, few (known c.before)))
     (λ c. let a = c.before.before.before.before.args in kept-wide (angle (way_of a.way)) (num a.z) a.out.now (λ e. c.if1.true (e ∙ angle-wide_is (known c.before.before))))
     (λ c κs. search rules)
-    (λ c. let a = c.before.before.before.before.before.before.args in kept_unfit (angle (way_of a.way)) (num a.z) a.out.now (sym (fitting c.before) ∙ not_true _ c.if2.true))
+    (λ c. let a = c.before.before.before.before.before.before.args in kept_unfit (angle (way_of a.way)) (num a.z) a.out.now (sym (fitting c.before) ∙ not-true _ c.if2.true))
     (λ c κs. search rules) (λ c. search rules) put-size-requires (λ c. search rules) put-size-requires-2 (λ c. search rules) returns-3 (λ c. search rules) returns-4)

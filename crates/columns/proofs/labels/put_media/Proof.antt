@@ -3,7 +3,7 @@ use mathlib.Core.Path.{◌≡◌, sym, ◌∙◌}
 use borrow.Author.Rules.{rules}
 use native.Mathlib.Omega.{arith}
 use mathlib.Core.Bool.{true}
-use borrow.Author.Tests.{not_true, not-false}
+use borrow.Author.Tests.{not-true, not-false}
 use Rattle.rules.specs.Items.{media, fits}
 use Rattle.columns.specs.Types.{media_value}
 use Rattle.columns.proofs.WriteLaws.{kept_unfit}
@@ -18,7 +18,7 @@ pub put-media-spec : {M : Type 1} → statement M
 put-media-spec =
     tie.close
     (tie.spec (λ c κs. search rules)
-    (λ c. let a = c.before.before.before.args in kept_unfit media (media_value a.m) a.out.now (sym c.before.media-fits.ensures ∙ not_true _ c.if1.true))
+    (λ c. let a = c.before.before.before.args in kept_unfit media (media_value a.m) a.out.now (sym c.before.media-fits.ensures ∙ not-true _ c.if1.true))
     (λ c κs. search rules) (λ c κs. search rules) (λ c κs. search rules)
     (λ c. omega (arith, year_small c.before.before.before.before.before.before.before.before.args.m (fitted c.before.before.before.before.before)))
     (λ c. search rules) (λ c κs. search rules) (λ c. search rules)

@@ -2,7 +2,7 @@
 use mathlib.Core.Path.{sym, ◌∙◌}
 use borrow.Author.Rules.{rules}
 use lib.IntN.{pos}
-use borrow.Author.Tests.{not_true, not-false}
+use borrow.Author.Tests.{not-true, not-false}
 use Rattle.rules.specs.Items.{month, num}
 use Rattle.columns.proofs.WriteLaws.{kept-wide, kept_unfit, now_written, month-wide, month-put}
 use Rattle.columns.proofs.numbers.put_month.Statement.{statement}
@@ -14,7 +14,7 @@ put-month-spec =
     (tie.spec
     (λ c. let a = c.before.before.args in kept-wide month (num (pos a.n)) a.out.now (λ e. c.if1.true (e ∙ month-wide)))
     (λ c κs. search rules)
-    (λ c. let a = c.before.before.before.before.args in kept_unfit month (num (pos a.n)) a.out.now (sym c.before.month-fits.ensures ∙ not_true _ c.if2.true))
+    (λ c. let a = c.before.before.before.before.args in kept_unfit month (num (pos a.n)) a.out.now (sym c.before.month-fits.ensures ∙ not-true _ c.if2.true))
     (λ c κs. search rules)
     (λ c. search rules)
     (λ c.

@@ -1,7 +1,7 @@
 -- The invariant: up to column k the field begins like a good one, so that the first column that does not is among those from k on.
 use mathlib.Core.Path.{◌≡◌, refl}
 use borrow.Author.Rules.{rules}
-use borrow.Author.Tests.{not_true, not-false}
+use borrow.Author.Tests.{not-true, not-false}
 use native.Mathlib.Omega.{arith}
 use Prim.Native.Nat.{◌-◌, ◌≤◌}
 use lib.ListN.{length, take, replicate}
@@ -44,7 +44,7 @@ first-bad-spec =
     (λ c. let b = c.before in
     let a = b.before.before in
     let s = a.before.before.before.before.before in
-    bad_here (item_as s.args.kind (length s.args.part.now)) s.args.part.now s.requires a.loop.k b.before.loop-test.true b.can-begin.ensures (not_true _ c.if1.true) a.loop.invariant.3)
+    bad_here (item_as s.args.kind (length s.args.part.now)) s.args.part.now s.requires a.loop.k b.before.loop-test.true b.can-begin.ensures (not-true _ c.if1.true) a.loop.invariant.3)
     (λ c. search rules)
     (λ c. search rules)
     (λ c. let b = c.before in
