@@ -1,0 +1,20 @@
+-- In a field that has its form the last column tells a blank one, and the value fits the width. Assumes nothing.
+use mathlib.Core.Path.{sym, ◌∙◌}
+use Rattle.rules.specs.Tests.{◌&◌}
+use Rattle.rules.proofs.Truth.{of≤, of>}
+use Rattle.columns.proofs.NumberLaws.{height-good}
+use Rattle.columns.proofs.heights.good_height.Goals as goal
+
+pub returns-then-part-gt16 : goal.returns-then-part-gt16
+unfolding ◌&◌
+returns-then-part-gt16 c = sym (rw (of> c.if-part-gt16.true))
+
+pub returns : goal.returns
+unfolding ◌&◌
+returns c =
+    let a = c.args in
+    let b = c in
+    let s = b in
+    let m = s in
+    sym (rw (of≤ c.if-part-gt16.false)
+    (sym (height-good a.lo a.hi a.may a.part.now c.has_form.ensures m.last_of-blank.ensures (b.is_between-held.ensures ∙ rw (m.has_minus.ensures, s.sum.ensures.is)))))

@@ -1,0 +1,31 @@
+-- The invariant: what is read on from here is what was to be read, and the sum so far is what i bytes can make. Assumes nothing.
+use mathlib.Core.Path.{◌≡◌, refl, sym, ◌∙◌}
+use native.Mathlib.Omega.{arith}
+use lib.ListN.{length}
+use Rattle.columns.proofs.Loops.{val_turn, val_end, pow_next, pow_most}
+use Rattle.columns.proofs.numbers.sum.Goals as goal
+
+pub overflow_mul-v : goal.overflow_mul-v
+overflow_mul-v c = omega (arith, pow_most c.loop-i.i 15 (omega arith))
+
+pub overflow_add-v : goal.overflow_add-v
+overflow_add-v c =
+    let s = c in
+    omega (arith, pow_most s.loop-i.i 15 (omega arith), c.shared_slice_known-in-loop-i-1.given s.loop-i.i, c.digit.ensures)
+
+pub loop-i-preserved : goal.loop-i-preserved
+loop-i-preserved c =
+    let s = c in (
+      refl,
+      omega arith,
+      omega arith,
+      omega (arith, pow_next s.loop-i.i, c.shared_slice_known-in-loop-i-1.given s.loop-i.i, c.digit.ensures),
+      val_turn s.args.part.now s.loop-i.i s.loop-i.v _ c.digit.ensures c.loop-i-test.true ∙ s.loop-i.invariant.4,
+    )
+
+pub returns : goal.returns
+returns c =
+    let s = c in
+    let f = s.args.part.now in
+    let e : s.loop-i.i ≡ length f = omega arith in
+    record { is = sym (val_end f s.loop-i.i s.loop-i.v c.loop-i-test.false) ∙ s.loop-i.invariant.4; small = rw (← e) s.loop-i.invariant.3 }

@@ -1,0 +1,17 @@
+-- A loop that tests every column; the law is `all-turn`, whatever is tested. Assumes nothing.
+use mathlib.Core.Path.{refl, sym, ◌∙◌}
+use native.Mathlib.Omega.{arith}
+use Rattle.rules.specs.Tests.{◌=?◌}
+use Rattle.columns.proofs.Loops.{all_turn, all_end}
+use Rattle.columns.proofs.sets.all_are.Goals as goal
+
+pub loop-i-preserved : goal.loop-i-preserved
+unfolding ◌=?◌
+loop-i-preserved c =
+    let s = c in
+    (refl, omega arith, all_turn (λ b. b =? s.args.c) s.args.part.now s.loop-i.i s.loop-i.good _ refl c.loop-i-test.true ∙ s.loop-i.invariant.2)
+
+pub returns : goal.returns
+returns c =
+    let s = c in
+    sym (all_end (λ b. b =? s.args.c) s.args.part.now s.loop-i.i s.loop-i.good c.loop-i-test.false) ∙ s.loop-i.invariant.2
