@@ -9,7 +9,7 @@ use Rattle.rules.specs.Tests.{◌&◌, ◌≤?◌, ◌=?◌, within}
 use Rattle.rules.specs.Characters.{is_printable}
 use Rattle.rules.specs.Items.{Value, num, text, Item, number, height, angle, month, media, word, each, or_blank, latitude, longitude, on_gap, fits}
 use Rattle.rules.specs.Fields.{Verdict, check, ◌⨾◌, anything, given, entries_of, value_at, num_of, is_missing, same_truth, meets, agrees_with, agrees, judge_each, judge}
-use Rattle.rules.specs.Layouts.{station, instrument, antenna, initials, state, metres, deviation, correlation, variance, project, occupation, measurement, receiver, aerial, point, heights, network, local, factor}
+use Rattle.rules.specs.Layouts.{station, metres, deviation, correlation, variance, project, occupation, measurement, receiver, aerial, point, heights, network, local, factor}
 use Rattle.columns.specs.declared.Set.{Set}
 use Rattle.columns.specs.declared.Height.{Height}
 use Rattle.columns.specs.Types.{set_of, height_value, media_value, four_of}

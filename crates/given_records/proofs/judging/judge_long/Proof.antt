@@ -1,8 +1,0 @@
--- The field's test by its own promise, after the verdict so far.
-use mathlib.Core.Path.{◌∙◌}
-use borrow.Author.Rules.{rules}
-use Rattle.given_records.proofs.judging.judge_long.Statement.{statement}
-use Rattle.given_records.proofs.judging.judge_long.Tie as tie
-
-pub judge-long-spec : {M : Type 1} → statement M
-judge-long-spec = tie.close (tie.spec (λ c κs. search rules) (λ c κs. search rules) (λ c. c.judge-test.ensures ∙ rw c.before.number_fits.ensures))
