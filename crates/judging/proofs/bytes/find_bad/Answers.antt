@@ -1,10 +1,8 @@
 -- The invariant: the columns before i are printable, so that the lowest fault is that of the columns from i on.
 use borrow.Author.Rules.{rules}
-use mathlib.Core.Path.{◌≡◌, refl}
-use Prim.Native.Nat.{◌-◌}
+use mathlib.Core.Path.{refl}
 use native.Mathlib.Omega.{arith}
-use lib.ListN.{length}
-use Rattle.judging.proofs.ByteLaws.{Sought, short, too_low, too_high, on, no_feed, other_byte, fine}
+use Rattle.judging.proofs.ByteLaws.{short, too_low, too_high, on, no_feed, other_byte, fine}
 use Rattle.judging.proofs.bytes.find_bad.Goals as goal
 
 pub loop-i-init : goal.loop-i-init

@@ -1,10 +1,8 @@
 -- The invariant: the columns before i are printable, so that the lowest fault is that of the columns from i on.
-use borrow.Author.Rules.{rules}
-use mathlib.Core.Path.{◌≡◌, refl}
+use mathlib.Core.Path.{◌≡◌}
 use Prim.Native.Nat.{◌-◌}
-use native.Mathlib.Omega.{arith}
 use lib.ListN.{length}
-use Rattle.judging.proofs.ByteLaws.{Sought, short, too_low, too_high, on, no_feed, other_byte, fine}
+use Rattle.judging.proofs.ByteLaws.{Sought}
 use Rattle.judging.proofs.bytes.find_bad.Given as goal
 
 abbrev pub invariant-loop-i : goal.invariant-loop-i

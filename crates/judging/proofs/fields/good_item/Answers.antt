@@ -1,5 +1,4 @@
 -- One arm for each item, by the promise of what it calls.
-use borrow.Author.Rules.{rules}
 use Rattle.kinds.specs.declared.tables.Item.TheVariants as I
 use Rattle.judging.proofs.SpotLaws.{sized-number, sized-height}
 use Rattle.judging.proofs.FieldLaws.{stands_narrow}

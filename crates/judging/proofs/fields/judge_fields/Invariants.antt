@@ -1,8 +1,7 @@
 -- The invariant: the fields before row i are good, so that the first fault is that of the rows from i on.
-use borrow.Author.Rules.{rules}
 use Prim.Native.Nat.{◌-◌}
 use Rattle.kinds.specs.Values.{expect_of}
-use Rattle.judging.proofs.RowLaws.{Walked, walk_from, below, walk_stop, walk_on, walk_done}
+use Rattle.judging.proofs.RowLaws.{Walked}
 use Rattle.judging.proofs.fields.judge_fields.Given as goal
 
 abbrev pub invariant-loop-i : goal.invariant-loop-i

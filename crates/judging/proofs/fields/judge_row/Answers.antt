@@ -1,5 +1,4 @@
 -- The part as the code cuts it is the field's columns; then 9 before 10.
-use borrow.Author.Rules.{rules}
 use Rattle.kinds.specs.Values.{expect_of}
 use Rattle.judging.proofs.FieldLaws.{cut_sized, row_good, row_odd, row_bad}
 use Rattle.judging.proofs.fields.judge_row.Goals as goal

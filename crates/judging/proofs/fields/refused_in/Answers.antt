@@ -1,5 +1,4 @@
 -- The part as the code cuts it is the field's columns.
-use borrow.Author.Rules.{rules}
 use native.Mathlib.Omega.{arith}
 use Rattle.judging.proofs.FieldLaws.{cut_spans, spot_small, refused_is}
 use Rattle.judging.proofs.fields.refused_in.Goals as goal

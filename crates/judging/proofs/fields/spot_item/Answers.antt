@@ -1,5 +1,4 @@
 -- The kind of field that stands there has the item's columns.
-use borrow.Author.Rules.{rules}
 use Rattle.judging.proofs.SpotLaws.{item_spans, item_spot}
 use Rattle.judging.proofs.fields.spot_item.Goals as goal
 

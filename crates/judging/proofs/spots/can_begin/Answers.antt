@@ -1,5 +1,4 @@
 -- The three ends one after another.
-use borrow.Author.Rules.{rules}
 use Rattle.judging.proofs.SpotLaws.{begin_least, begin_zeros, begin_blanks}
 use Rattle.judging.proofs.spots.can_begin.Goals as goal
 

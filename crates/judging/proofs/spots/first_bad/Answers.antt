@@ -1,13 +1,10 @@
 -- The invariant: up to column k the field begins like a good one, so that the first column that does not is among those from k on.
-use mathlib.Core.Path.{◌≡◌, refl}
-use borrow.Author.Rules.{rules}
-use borrow.Author.Tests.{not-true, not-false}
+use mathlib.Core.Path.{refl}
 use native.Mathlib.Omega.{arith}
-use Prim.Native.Nat.{◌-◌, ◌≤◌}
-use lib.ListN.{length, take, replicate}
-use Rattle.rules.specs.Items.{render, least, spot}
+use Prim.Native.Nat.{◌≤◌}
+use lib.ListN.{length, replicate}
 use Rattle.judging.specs.Judging.{item_as}
-use Rattle.judging.proofs.SpotLaws.{spans_80, least-spans, least-laid, left, bad_from, bad_here, bad_later, bad_last}
+use Rattle.judging.proofs.SpotLaws.{spans_80, least-spans, least-laid, bad_from, bad_here, bad_later, bad_last}
 use Rattle.judging.proofs.spots.first_bad.Goals as goal
 
 room : (c : goal.After-shared_slice_known-1) → length c.args.part.now ≤ 80

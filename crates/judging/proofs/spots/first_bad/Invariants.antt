@@ -1,13 +1,10 @@
 -- The invariant: up to column k the field begins like a good one, so that the first column that does not is among those from k on.
-use mathlib.Core.Path.{◌≡◌, refl}
-use borrow.Author.Rules.{rules}
-use borrow.Author.Tests.{not-true, not-false}
-use native.Mathlib.Omega.{arith}
+use mathlib.Core.Path.{◌≡◌}
 use Prim.Native.Nat.{◌-◌, ◌≤◌}
-use lib.ListN.{length, take, replicate}
+use lib.ListN.{length, take}
 use Rattle.rules.specs.Items.{render, least, spot}
 use Rattle.judging.specs.Judging.{item_as}
-use Rattle.judging.proofs.SpotLaws.{spans_80, least-spans, least-laid, left, bad_from, bad_here, bad_later, bad_last}
+use Rattle.judging.proofs.SpotLaws.{left}
 use Rattle.judging.proofs.spots.first_bad.Given as goal
 
 abbrev pub invariant-loop-k : goal.invariant-loop-k

@@ -1,5 +1,4 @@
 -- The trial is the beginning with the rest of the end behind it.
-use borrow.Author.Rules.{rules}
 use native.Mathlib.Omega.{arith}
 use Prim.Native.Nat.{◌≤◌}
 use lib.ListN.{length}
@@ -30,16 +29,16 @@ pub slice_bounds-is_good-end : goal.slice_bounds-is_good-end
 slice_bounds-is_good-end c =
     let t = c in
     let s = t in
-    omega (arith, room' s, trial_room s.args.part.now s.args.end t.put_text.new.0 s.args.k s.requires.0 (room' s) t.put_text.ensures)
+    omega (arith, room' s, trial_room s.args.part.now s.args.end t.put_text.new.out s.args.k s.requires.0 (room' s) t.put_text.ensures)
 
 pub is_good-requires : goal.is_good-requires
 is_good-requires c =
     let t = c in
     let s = t in
-    trial_spans s.args.part.now s.args.end t.put_text.new.0 s.args.k s.requires.0 (room'' s) t.put_text.ensures s.args.kind s.requires.1
+    trial_spans s.args.part.now s.args.end t.put_text.new.out s.args.k s.requires.0 (room'' s) t.put_text.ensures s.args.kind s.requires.1
 
 pub returns : goal.returns
 returns c =
     let t = c in
     let s = t in
-    trial_good s.args.part.now s.args.end t.put_text.new.0 s.args.k s.requires.0 (room''' s) t.put_text.ensures s.args.kind s.requires.1 c.is_good.ensures
+    trial_good s.args.part.now s.args.end t.put_text.new.out s.args.k s.requires.0 (room''' s) t.put_text.ensures s.args.kind s.requires.1 c.is_good.ensures

@@ -1,5 +1,4 @@
 -- One arm for each kind, by the promise of what it calls.
-use borrow.Author.Rules.{rules}
 use Rattle.judging.proofs.SpotLaws.{sized-number, sized-height, good_narrow, media_long}
 use Rattle.judging.proofs.spots.is_good.Goals as goal
 

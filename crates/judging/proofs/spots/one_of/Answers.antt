@@ -1,5 +1,4 @@
 -- One arm for each set.
-use borrow.Author.Rules.{rules}
 use Rattle.judging.proofs.SpotLaws.{one_in_lem}
 use Rattle.judging.proofs.spots.one_of.Goals as goal
 

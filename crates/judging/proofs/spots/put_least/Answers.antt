@@ -1,6 +1,5 @@
 -- One arm for each kind, by the promise of what it calls.
 use mathlib.Core.Path.{refl}
-use borrow.Author.Rules.{rules}
 use lib.ListN.{length}
 use Rattle.judging.proofs.SpotLaws.{least-blank, least-constant, least-number, least-height, least-angle, least-month, least-media, least-word, least-or-blank}
 use Rattle.judging.proofs.spots.put_least.Goals as goal
