@@ -8,7 +8,7 @@ use lib.Dec.{leb, eqb}
 use lib.ListN.{length, get_or, take, drop, replicate, get_or-replicate}
 use lib.Seq.{get_or-drop}
 use borrow.Author.Tests.{eqb-true}
-use Rattle.rules.specs.Tests.{◌&◌, ◌≤?◌, ◌=?◌, all}
+use Rattle.rules.specs.Tests.{◌≤?◌, ◌=?◌, all}
 use Rattle.rules.specs.Fields.{Expect, meets}
 use Rattle.rules.proofs.Truth.{to≤, no≤, cases, above_0, both_true}
 use Rattle.kinds.specs.Tables.{row_lists}

@@ -13,7 +13,7 @@ use Rattle.rules.specs.Characters.{is_blank}
 use Rattle.rules.specs.Digits.{val}
 use Rattle.rules.specs.Items.{Value, gap, missing, num, text, label, month, media, columns, width, value_of, number, height, angle}
 use Rattle.rules.specs.Fields.{columns_of, values}
-use Rattle.rules.specs.Layouts.{station, instrument, antenna, initials, state, layouts}
+use Rattle.rules.specs.Layouts.{layouts}
 use Rattle.rules.specs.Records.{sequence, code_at}
 use Rattle.rules.proofs.Truth.{of≤, cases}
 use Rattle.rules.proofs.FileLaws.{length-take_most}

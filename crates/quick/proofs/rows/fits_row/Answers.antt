@@ -1,0 +1,20 @@
+-- The invariant: where nothing failed so far, the columns of every step so far are of their class.
+use native.Mathlib.Omega.{arith}
+use Rattle.quick.specs.Rows.{five_at}
+use Rattle.quick.proofs.CodeLaws.{five_turn, five_columns}
+use Rattle.quick.proofs.rows.fits_row.Goals as goal
+
+pub loop-i-init : goal.loop-i-init
+loop-i-init c = (c.requires, omega arith, λ q j h. absurd (omega arith))
+
+pub loop-i-preserved : goal.loop-i-preserved
+loop-i-preserved c =
+    let s = c in
+    let a = s.args in
+    (s.loop-i.invariant.0, omega arith, five_turn (five_at a.row.now a.line.now) s.loop-i.good c.five-good.result s.loop-i.i s.loop-i.invariant.2 c.five-good.ensures)
+
+pub returns : goal.returns
+returns c =
+    let s = c in
+    let a = s.args in
+    λ q. five_columns a.row.now a.line.now (λ j h. s.loop-i.invariant.2 q j (omega (arith, h)))

@@ -1,0 +1,22 @@
+-- The invariant: where nothing failed so far, the columns of every step so far are printable, and those of the first sixteen of their class.
+use mathlib.Core.Bool.{◌&&◌}
+use native.Mathlib.Omega.{arith}
+use Rattle.quick.specs.Rows.{col_at, five_texts}
+use Rattle.quick.proofs.CodeLaws.{five_turn, texts_from}
+use Rattle.quick.proofs.rows.fits_texts.Goals as goal
+
+pub loop-i-init : goal.loop-i-init
+loop-i-init c = (c.requires, omega arith, λ q j h. absurd (omega arith))
+
+pub loop-i-preserved : goal.loop-i-preserved
+loop-i-preserved c =
+    let d = c in
+    let s = d in
+    let a = s.args in
+    (s.loop-i.invariant.0, omega arith, five_turn (λ j. col_at a.row.now a.line.now j && five_texts a.line.now j) s.loop-i.good (d.column.result && c.five_texts.result) s.loop-i.i s.loop-i.invariant.2 (rw (d.column.ensures, c.five_texts.ensures)))
+
+pub returns : goal.returns
+returns c =
+    let s = c in
+    let a = s.args in
+    λ q. texts_from a.row.now a.line.now (λ j h. s.loop-i.invariant.2 q j (omega (arith, h)))

@@ -1,0 +1,22 @@
+-- The invariant: no row before i starts at the column, so that the width is that of the rows from i on.
+use borrow.Author.Rules.{rules}
+use Rattle.reading.proofs.WidthLaws.{seek_from, below, seek_found, seek_on, seek_done}
+use Rattle.reading.proofs.widths.row_width.Goals as goal
+
+pub loop-i-init : goal.loop-i-init
+loop-i-init c = search (seek_from, rules)
+
+pub first_at-requires : goal.first_at-requires
+first_at-requires c = below c.loop-i.invariant c.loop-i-test.true
+
+pub width_at-requires : goal.width_at-requires
+width_at-requires c = below c.loop-i.invariant c.loop-i-test.true
+
+pub returns-then-column-first : goal.returns-then-column-first
+returns-then-column-first c = search (seek_found, rules)
+
+pub loop-i-preserved : goal.loop-i-preserved
+loop-i-preserved c = search (seek_on, rules)
+
+pub returns : goal.returns
+returns c = search (seek_done, rules)
