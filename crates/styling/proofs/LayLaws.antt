@@ -152,7 +152,7 @@ laid_fields {P} {l} n (f ∷ fs) (x ∷ xs) v h d k =
     let next : n + 1 + w ≡ n + w + 1 = omega arith in
     let fit : length (render f.item x) ≡ w = (lawful f.item x (both k).0).sized in
     rw (← append_assoc P (render f.item x) (renders fs xs))
-    (laid_fields (n + w) fs xs (laid_on (render f.item x) f.from w v from fit (omega arith) (omega arith)) (rw next at (both h).1) (omega arith) (both k).1)
+    (laid_fields {P = P ++ render f.item x} (n + w) fs xs (laid_on (render f.item x) f.from w v from fit (omega arith) (omega arith)) (rw next at (both h).1) (omega arith) (both k).1)
 
 -- a whole line: sequence number, code, fields, line feed
 pub line_laid : (q : Value) (m : Meaning) (l : List ℕ) → length l ≡ 81 → fits sequence q ≡ true → meant chapter4 m ≡ true

@@ -1,0 +1,25 @@
+use mathlib.Core.Path.{refl}
+use native.Mathlib.Omega.{arith}
+use borrow.Author.Rules.{rules}
+use Rattle.padding.proofs.WalkLaws.{untold, told_through, four-within}
+use Rattle.padding.proofs.counting.count_lines.Goals as goal
+
+pub returns-then-size-second : goal.returns-then-size-second
+returns-then-size-second c = untold _
+
+pub returns-then-size-third : goal.returns-then-size-third
+returns-then-size-third c = untold _
+
+pub returns-then-size-fourth : goal.returns-then-size-fourth
+returns-then-size-fourth c = untold _
+
+pub walk_out-requires : goal.walk_out-requires
+walk_out-requires c =
+    let walked = c in
+    let third = walked in
+    (refl, walked.walk_in_turn-lines.ensures.0, four-within _ _ _ _ _ third.if-size-second.false third.if-size-third.false third.if-size-fourth.false (omega arith), walked.walk_in_turn-lines.ensures.1.few)
+
+pub returns : goal.returns
+returns c =
+    let walked = c in
+    told_through _ _ _ _ _ refl _ _ walked.walk_in_turn-lines.ensures.1 _ c.walk_out.ensures

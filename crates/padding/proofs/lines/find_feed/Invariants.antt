@@ -1,0 +1,15 @@
+-- The invariant: what stands before the first LF from here on, with what was passed, is what stands before it from the start.
+use mathlib.Core.Path.{◌≡◌, refl}
+use Prim.Native.Nat.{◌+◌, ◌-◌, ◌≤◌}
+use native.Mathlib.Omega.{arith}
+use lib.ListN.{length, drop}
+use borrow.Author.Rules.{rules}
+use Rattle.padding.specs.Lines.{feed_at}
+use Rattle.padding.proofs.FeedLaws.{find_here, find_further, find_none}
+use Rattle.padding.proofs.lines.find_feed.Given as goal
+
+abbrev pub invariant-loop-i : goal.invariant-loop-i
+invariant-loop-i l = (l.n ≡ length l.part) × (l.i ≤ l.n) × (l.i + feed_at (drop l.i l.part) ≡ feed_at l.part)
+
+abbrev pub decreases-loop-i : goal.decreases-loop-i
+decreases-loop-i l = l.n - l.i

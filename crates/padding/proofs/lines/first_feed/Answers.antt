@@ -1,0 +1,26 @@
+-- The invariant: the first LF among the bytes looked at so far.
+use mathlib.Core.Path.{◌≡◌, refl, sym, ◌∙◌, ap, subst}
+use Prim.Native.Nat.{◌+◌, ◌-◌, ◌≤◌}
+use native.Mathlib.Omega.{arith}
+use lib.ListN.{length}
+use borrow.Author.Rules.{rules}
+use Rattle.padding.specs.Lines.{lesser}
+use Rattle.padding.proofs.FeedLaws.{Found, Seen, seen_none, found_turn, found_all}
+use Rattle.padding.proofs.lines.first_feed.Goals as goal
+
+pub loop-i-init : goal.loop-i-init
+loop-i-init c = (c.requires, omega arith, refl, seen_none _)
+
+pub nearest_feed-requires : goal.nearest_feed-requires
+nearest_feed-requires c = (search rules, search rules, search rules)
+
+pub loop-i-preserved : goal.loop-i-preserved
+loop-i-preserved c =
+    let s = c in
+    let f = s.args.part.now in
+    (s.loop-i.invariant.0, omega arith, omega (arith, s.loop-i.invariant.2), subst (Found f (Seen f (s.loop-i.i + 1))) (sym (c.lesser_of-first.ensures ∙ ap (lesser s.loop-i.first) c.nearest_feed.ensures)) (found_turn f s.loop-i.i s.loop-i.first c.loop-i-test.true s.loop-i.invariant.3))
+
+pub returns : goal.returns
+returns c =
+    let s = c in
+    found_all s.args.part.now s.loop-i.i s.loop-i.first s.loop-i.invariant.0 c.loop-i-test.false s.loop-i.invariant.3

@@ -1,0 +1,25 @@
+use mathlib.Core.Path.{refl}
+use native.Mathlib.Omega.{arith}
+use borrow.Author.Rules.{rules}
+use Rattle.padding.specs.Lines.{mask_bytes}
+use Rattle.padding.proofs.PadLaws.{faulty, good-lines, count, narrow, before, laid}
+use Rattle.padding.proofs.pad.Goals as goal
+
+pub count_halves-halves-requires : goal.count_halves-halves-requires
+count_halves-halves-requires c = c.count_halves-halves.ensures.told
+
+pub judge-v-requires : goal.judge-v-requires
+judge-v-requires c = search (faulty, rules)
+
+pub refused-requires : goal.refused-requires
+refused-requires c = search (narrow, rules)
+
+pub lay_lines-requires : goal.lay_lines-requires
+unfolding mask_bytes
+lay_lines-requires c =
+    let judged = c in
+    let halves = judged.count_halves-halves.ensures in
+    (refl, search (good-lines, rules), search (count, rules), search (before, rules), halves.behind, omega arith)
+
+pub returns : goal.returns
+returns c = search (laid, rules)

@@ -1,0 +1,63 @@
+-- The invariant: what both stretches have left can be laid, and then all of both is laid.
+use mathlib.Core.Path.{◌≡◌}
+use Prim.Native.Nat.{◌+◌, ◌-◌, ◌≤◌}
+use native.Mathlib.Omega.{arith}
+use lib.ListN.{length}
+use borrow.Author.Rules.{rules}
+use Rattle.padding.specs.Lines.{mask_bytes}
+use Rattle.padding.specs.Walks.{Turned}
+use Rattle.padding.proofs.PassLaws.{window, next_within, text_there}
+use Rattle.padding.proofs.StretchLaws.{inside, line_room, line_wide, line_fits, turned_from, turned_next}
+use Rattle.padding.proofs.stretches.lay_in_turn.Goals as goal
+
+-- there is room for the line, and it is one that fits
+room : (c : goal.After-text_length-k) → c.loop-here.here.to + 81 ≤ length c.loop-here.out
+room c = let s = c in line_room _ _ s.loop-here.here s.loop-here.invariant.1.ready_here c.loop-here-test.true
+
+-- the next line starts at most one byte behind the end
+next : (c : goal.After-slice_known-in-loop-here-1)
+    → c.loop-here.here.from + (c.feed_at-n.result + 1)
+    ≤ length c.args.input.now + 1
+next c =
+    let read = c in
+    let turn = read in
+    let s = turn in
+    let f = s.args.input.now in
+    next_within f s.loop-here.here.from (inside f _ s.loop-here.here s.loop-here.invariant.1.ready_here turn.loop-here-test.true) _ (window f s.loop-here.here.from) _ read.feed_at-n.ensures
+
+pub returns-then-size-lt82 : goal.returns-then-size-lt82
+returns-then-size-lt82 c = search (turned_from, rules)
+
+pub loop-here-init : goal.loop-here-init
+loop-here-init c = (search rules, search (turned_from, rules))
+
+pub overflow_add-e : goal.overflow_add-e
+overflow_add-e c = let h = room c in omega arith
+
+pub slice_bounds-lay_line-end : goal.slice_bounds-lay_line-end
+slice_bounds-lay_line-end c = let h = room c in search rules
+
+pub lay_line-requires : goal.lay_line-requires
+lay_line-requires c =
+    let read = c in
+    let turn = read in
+    let s = turn in
+    let f = s.args.input.now in
+    let ready = s.loop-here.invariant.1.ready_here in
+    let at = s.loop-here.here.from in
+    (text_there f at (inside f _ s.loop-here.here ready turn.loop-here-test.true) _ (window f at) _ read.feed_at-n.ensures _ read.text_length-k.ensures, line_fits f _ s.loop-here.here ready turn.loop-here-test.true _ (window f at) _ read.feed_at-n.ensures _ read.text_length-k.ensures, search rules, line_wide f _ s.loop-here.here ready turn.loop-here-test.true)
+
+pub overflow_add-rest : goal.overflow_add-rest
+overflow_add-rest c = let h = next c in omega arith
+
+pub overflow_add-rest-in-loop-here : goal.overflow_add-rest-in-loop-here
+overflow_add-rest-in-loop-here c = let h = next c in omega arith
+
+pub loop-here-preserved : goal.loop-here-preserved
+loop-here-preserved c =
+    let put = c in
+    let read = put in
+    let turn = read in
+    let s = turn in
+    let f = s.args.input.now in
+    (search rules, turned_next f _ _ _ _ s.loop-here.here s.loop-here.there s.loop-here.invariant.1 turn.loop-here-test.true _ (window f s.loop-here.here.from) read.feed_at-n.result read.feed_at-n.ensures read.text_length-k.result read.text_length-k.ensures _ put.lay_line.ensures)

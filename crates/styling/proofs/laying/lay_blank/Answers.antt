@@ -1,0 +1,7 @@
+use Rattle.rules.specs.Items.{render, on_number}
+use Rattle.columns.specs.Types.{count_value}
+use Rattle.styling.proofs.laying.lay_blank.Goals as goal
+
+pub returns : goal.returns
+unfolding render on_number count_value
+returns c = c.lay_count.ensures
