@@ -1,9 +1,9 @@
 -- The invariant: the verdict on the lines from here on is the verdict on all, and their number with those passed is the number of all.
-use Prim.Native.Nat.{◌+◌, ◌-◌, ◌≤◌}
+use Prim.Native.Nat.{◌+◌, ◌≤◌}
 use native.Mathlib.Omega.{arith}
 use lib.ListN.{length}
 use borrow.Author.Rules.{rules}
-use Rattle.padding.proofs.PassLaws.{Judging, judge_from, judge_2, judge_5, judge_next, judge_end, next_within}
+use Rattle.padding.proofs.PassLaws.{judge_from, judge_2, judge_5, judge_next, judge_end, next_within}
 use Rattle.padding.proofs.judge_lines.Goals as goal
 
 -- the next line starts at most one byte behind the end

@@ -1,9 +1,7 @@
 -- The invariant: the verdict on the lines from here on is the verdict on all, and their number with those passed is the number of all.
-use Prim.Native.Nat.{◌+◌, ◌-◌, ◌≤◌}
-use native.Mathlib.Omega.{arith}
+use Prim.Native.Nat.{◌+◌, ◌-◌}
 use lib.ListN.{length}
-use borrow.Author.Rules.{rules}
-use Rattle.padding.proofs.PassLaws.{Judging, judge_from, judge_2, judge_5, judge_next, judge_end, next_within}
+use Rattle.padding.proofs.PassLaws.{Judging}
 use Rattle.padding.proofs.judge_lines.Given as goal
 
 abbrev pub invariant-loop-at : goal.invariant-loop-at

@@ -5,14 +5,14 @@ use Rattle.padding.specs.Lines.{mask_bytes}
 use Rattle.padding.proofs.PadLaws.{faulty, good-lines, count, narrow, before, laid}
 use Rattle.padding.proofs.pad.Goals as goal
 
-pub count_halves-halves-requires : goal.count_halves-halves-requires
-count_halves-halves-requires c = c.count_halves-halves.ensures.told
-
 pub judge-v-requires : goal.judge-v-requires
-judge-v-requires c = search (faulty, rules)
+judge-v-requires c = c.count_halves-halves.ensures.told
 
-pub refused-requires : goal.refused-requires
-refused-requires c = search (narrow, rules)
+pub returns-then-v-ne0 : goal.returns-then-v-ne0
+returns-then-v-ne0 c = search (faulty, rules)
+
+pub returns-then-out-v : goal.returns-then-out-v
+returns-then-out-v c = search (narrow, rules)
 
 pub lay_lines-requires : goal.lay_lines-requires
 unfolding mask_bytes

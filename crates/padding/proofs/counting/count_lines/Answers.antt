@@ -1,6 +1,5 @@
 use mathlib.Core.Path.{refl}
 use native.Mathlib.Omega.{arith}
-use borrow.Author.Rules.{rules}
 use Rattle.padding.proofs.WalkLaws.{untold, told_through, four-within}
 use Rattle.padding.proofs.counting.count_lines.Goals as goal
 

@@ -1,10 +1,8 @@
 -- The invariant: the walks have passed good lines only.
-use mathlib.Core.Path.{◌≡◌}
 use Prim.Native.Nat.{◌+◌, ◌-◌, ◌%◌, ◌≤◌}
 use native.Mathlib.Omega.{arith}
-use lib.ListN.{length, get_or, drop}
+use lib.ListN.{get_or, drop}
 use borrow.Author.Rules.{rules}
-use Rattle.padding.specs.Walks.{Passed}
 use Rattle.padding.proofs.WalkLaws.{within_82, passed_none, turn_next}
 use Rattle.padding.proofs.counting.walk_in_turn.Goals as goal
 

@@ -1,10 +1,8 @@
 -- The invariant: the walk has passed good lines only.
-use mathlib.Core.List.{[], ◌∷◌}
-use Prim.Native.Nat.{◌+◌, ◌-◌, ◌≤◌}
+use Prim.Native.Nat.{◌+◌, ◌≤◌}
 use native.Mathlib.Omega.{arith}
 use lib.ListN.{length}
 use borrow.Author.Rules.{rules}
-use Rattle.padding.specs.Walks.{Passed}
 use Rattle.padding.proofs.PassLaws.{next_within}
 use Rattle.padding.proofs.WalkLaws.{passed_none, one_next}
 use Rattle.padding.proofs.counting.walk_on.Goals as goal

@@ -1,12 +1,8 @@
 -- The invariant: the first k walks have come to their ends, the others stand where they stood.
-use mathlib.Core.Path.{refl}
 use mathlib.Core.List.{◌++◌}
 use Prim.Native.Nat.{◌-◌, ◌≤◌}
-use native.Mathlib.Omega.{arith}
 use lib.ListN.{take, drop}
-use borrow.Author.Rules.{rules}
 use Rattle.padding.specs.Walks.{Passed}
-use Rattle.padding.proofs.WalkLaws.{passed_none, passed_out, passed-all}
 use Rattle.padding.proofs.counting.walk_out.Given as goal
 
 abbrev pub invariant-loop-k : goal.invariant-loop-k

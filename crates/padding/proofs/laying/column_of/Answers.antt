@@ -1,4 +1,3 @@
-use borrow.Author.Rules.{rules}
 use Rattle.padding.specs.Lines.{column_of}
 use Rattle.padding.proofs.laying.column_of.Goals as goal
 

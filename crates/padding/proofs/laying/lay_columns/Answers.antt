@@ -1,11 +1,9 @@
 -- The invariant: the first i columns are those of the padded line.
-use mathlib.Core.Path.{◌≡◌}
-use Prim.Native.Nat.{◌-◌, ◌≤◌}
+use Prim.Native.Nat.{◌≤◌}
 use native.Mathlib.Omega.{arith}
-use lib.ListN.{length-set, take, drop}
+use lib.ListN.{length-set}
 use borrow.Author.Rules.{rules}
-use Rattle.padding.specs.Lines.{mask_bytes}
-use Rattle.padding.proofs.LineLaws.{masks_long, own_masks, own_long, Filling, fill_from, fill_next, fill_done}
+use Rattle.padding.proofs.LineLaws.{masks_long, own_masks, own_long, fill_from, fill_next, fill_done}
 use Rattle.padding.proofs.laying.lay_columns.Goals as goal
 
 pub slice_bounds-own-end : goal.slice_bounds-own-end

@@ -1,11 +1,9 @@
 -- The invariant: the first i columns are those of the padded line.
 use mathlib.Core.Path.{◌≡◌}
-use Prim.Native.Nat.{◌-◌, ◌≤◌}
-use native.Mathlib.Omega.{arith}
-use lib.ListN.{length-set, take, drop}
-use borrow.Author.Rules.{rules}
+use Prim.Native.Nat.{◌-◌}
+use lib.ListN.{take, drop}
 use Rattle.padding.specs.Lines.{mask_bytes}
-use Rattle.padding.proofs.LineLaws.{masks_long, own_masks, own_long, Filling, fill_from, fill_next, fill_done}
+use Rattle.padding.proofs.LineLaws.{Filling}
 use Rattle.padding.proofs.laying.lay_columns.Given as goal
 
 abbrev pub invariant-loop-i : goal.invariant-loop-i

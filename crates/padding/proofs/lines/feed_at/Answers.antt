@@ -3,7 +3,6 @@ use mathlib.Core.Path.{sym, ◌∙◌}
 use Prim.Native.Nat.{◌+◌, ◌≤◌}
 use native.Mathlib.Omega.{arith}
 use lib.ListN.{length}
-use borrow.Author.Rules.{rules}
 use Rattle.padding.proofs.FeedLaws.{full_feed, near_feed, far_most, far_feed}
 use Rattle.padding.proofs.lines.feed_at.Goals as goal
 

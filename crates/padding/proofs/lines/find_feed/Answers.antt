@@ -1,10 +1,7 @@
 -- The invariant: what stands before the first LF from here on, with what was passed, is what stands before it from the start.
-use mathlib.Core.Path.{◌≡◌, refl}
-use Prim.Native.Nat.{◌+◌, ◌-◌, ◌≤◌}
+use mathlib.Core.Path.{refl}
 use native.Mathlib.Omega.{arith}
-use lib.ListN.{length, drop}
 use borrow.Author.Rules.{rules}
-use Rattle.padding.specs.Lines.{feed_at}
 use Rattle.padding.proofs.FeedLaws.{find_here, find_further, find_none}
 use Rattle.padding.proofs.lines.find_feed.Goals as goal
 

@@ -1,11 +1,8 @@
 -- The invariant: what stands before the first LF from here on, with what was passed, is what stands before it from the start.
-use mathlib.Core.Path.{◌≡◌, refl}
+use mathlib.Core.Path.{◌≡◌}
 use Prim.Native.Nat.{◌+◌, ◌-◌, ◌≤◌}
-use native.Mathlib.Omega.{arith}
 use lib.ListN.{length, drop}
-use borrow.Author.Rules.{rules}
 use Rattle.padding.specs.Lines.{feed_at}
-use Rattle.padding.proofs.FeedLaws.{find_here, find_further, find_none}
 use Rattle.padding.proofs.lines.find_feed.Given as goal
 
 abbrev pub invariant-loop-i : goal.invariant-loop-i

@@ -1,8 +1,7 @@
 -- The invariant: the first LF among the bytes looked at so far.
-use mathlib.Core.Path.{◌≡◌, refl, sym, ◌∙◌, ap, subst}
-use Prim.Native.Nat.{◌+◌, ◌-◌, ◌≤◌}
+use mathlib.Core.Path.{refl, sym, ◌∙◌, ap, subst}
+use Prim.Native.Nat.{◌+◌}
 use native.Mathlib.Omega.{arith}
-use lib.ListN.{length}
 use borrow.Author.Rules.{rules}
 use Rattle.padding.specs.Lines.{lesser}
 use Rattle.padding.proofs.FeedLaws.{Found, Seen, seen_none, found_turn, found_all}

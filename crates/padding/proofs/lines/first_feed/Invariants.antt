@@ -1,11 +1,8 @@
 -- The invariant: the first LF among the bytes looked at so far.
-use mathlib.Core.Path.{◌≡◌, refl, sym, ◌∙◌, ap, subst}
-use Prim.Native.Nat.{◌+◌, ◌-◌, ◌≤◌}
-use native.Mathlib.Omega.{arith}
+use mathlib.Core.Path.{◌≡◌}
+use Prim.Native.Nat.{◌-◌, ◌≤◌}
 use lib.ListN.{length}
-use borrow.Author.Rules.{rules}
-use Rattle.padding.specs.Lines.{lesser}
-use Rattle.padding.proofs.FeedLaws.{Found, Seen, seen_none, found_turn, found_all}
+use Rattle.padding.proofs.FeedLaws.{Found, Seen}
 use Rattle.padding.proofs.lines.first_feed.Given as goal
 
 abbrev pub invariant-loop-i : goal.invariant-loop-i

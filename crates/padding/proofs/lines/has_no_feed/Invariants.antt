@@ -1,13 +1,9 @@
 -- A loop that tests every byte.
-use mathlib.Core.Path.{◌≡◌, refl, sym, ◌∙◌}
+use mathlib.Core.Path.{◌≡◌}
 use mathlib.Core.Bool.{◌&&◌, not}
 use Prim.Native.Nat.{◌-◌, ◌≤◌}
-use native.Mathlib.Omega.{arith}
 use lib.ListN.{length, drop}
-use borrow.Author.Rules.{rules}
 use Rattle.rules.specs.Tests.{all, ◌=?◌}
-use Rattle.columns.proofs.Loops.{all_turn, all_end}
-use Rattle.padding.specs.Lines.{is_free}
 use Rattle.padding.proofs.lines.has_no_feed.Given as goal
 
 abbrev pub invariant-loop-i : goal.invariant-loop-i

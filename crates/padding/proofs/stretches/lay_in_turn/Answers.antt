@@ -1,11 +1,8 @@
 -- The invariant: what both stretches have left can be laid, and then all of both is laid.
-use mathlib.Core.Path.{◌≡◌}
-use Prim.Native.Nat.{◌+◌, ◌-◌, ◌≤◌}
+use Prim.Native.Nat.{◌+◌, ◌≤◌}
 use native.Mathlib.Omega.{arith}
 use lib.ListN.{length}
 use borrow.Author.Rules.{rules}
-use Rattle.padding.specs.Lines.{mask_bytes}
-use Rattle.padding.specs.Walks.{Turned}
 use Rattle.padding.proofs.PassLaws.{window, next_within, text_there}
 use Rattle.padding.proofs.StretchLaws.{inside, line_room, line_wide, line_fits, turned_from, turned_next}
 use Rattle.padding.proofs.stretches.lay_in_turn.Goals as goal

@@ -1,0 +1,16 @@
+-- Field after field: each is laid over what those before it have left.
+use mathlib.Core.Path.{ap, ◌∙◌}
+use lib.ListN.{length}
+use Rattle.styling.proofs.LayLaws.{fields_length}
+use Rattle.rules.specs.Items.{render, on_number, on_text, on_gap}
+use Rattle.kinds.specs.Values.{values_of}
+use Rattle.styling.specs.Laying.{lay_fields}
+use Rattle.writing.proofs.lines.lay_antenna.Goals as goal
+
+pub returns : goal.returns
+unfolding lay_fields values_of render on_number on_text on_gap
+returns c =
+    rw (c.lay_blank-3.ensures, c.lay_text-2.ensures, c.lay_blank-2.ensures, c.lay_four.ensures, c.lay_text.ensures, c.lay_blank.ensures, c.lay_number.ensures)
+
+pub shape_of-line : goal.shape_of-line
+shape_of-line c = ap length (returns c) ∙ fields_length _ _ _
