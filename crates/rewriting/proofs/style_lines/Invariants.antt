@@ -1,0 +1,11 @@
+-- The invariant: what is laid so far, with what is left in house style, is the rewritten file.
+use borrow.Author.Rules.{rules}
+use Prim.Native.Nat.{◌-◌}
+use Rattle.rewriting.proofs.LayingLaws.{Laying, lay_from, lay-formed, lay_long, lay-known, lay_next, lay_done}
+use Rattle.rewriting.proofs.style_lines.Given as goal
+
+abbrev pub invariant-loop-i : goal.invariant-loop-i
+invariant-loop-i l = Laying l.file l.first l.initial.out l.n l.out l.i
+
+abbrev pub decreases-loop-i : goal.decreases-loop-i
+decreases-loop-i l = l.n - l.i
