@@ -1,0 +1,16 @@
+-- The invariant: the lines of the kinds so far are laid one after the other, and what lies outside is as it was.
+use borrow.Author.Rules.{rules}
+use mathlib.Core.Path.{◌≡◌}
+use Prim.Native.Nat.{◌-◌}
+use lib.ListN.{length}
+use Rattle.listing.proofs.LineLaws.{Listed, list_from, list_on, list_end}
+use Rattle.listing.proofs.lines.list_kinds.Goals as goal
+
+pub loop-kind-init : goal.loop-kind-init
+loop-kind-init c = search (list_from, rules)
+
+pub loop-kind-preserved : goal.loop-kind-preserved
+loop-kind-preserved c = search (list_on, rules)
+
+pub returns : goal.returns
+returns c = search (list_end, rules)
