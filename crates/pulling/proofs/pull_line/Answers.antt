@@ -1,0 +1,14 @@
+use borrow.Author.Rules.{rules}
+use Rattle.pulling.proofs.EntryLaws.{pull_formed, pull_good, pull_bad}
+use Rattle.pulling.proofs.pull_line.Reads as reads
+use Rattle.pulling.proofs.pull_line.Lts as lts
+use Rattle.pulling.proofs.pull_line.Goals as goal
+
+pub returns-then-fault-ne0 : goal.returns-then-fault-ne0
+returns-then-fault-ne0 c = search (pull_bad, rules)
+
+pub style_lines-requires : goal.style_lines-requires
+style_lines-requires c = (search rules, search rules, search (pull_formed, rules), search rules)
+
+pub returns : goal.returns
+returns c = search (pull_good, rules)
