@@ -7,12 +7,9 @@ use Rattle.columns.specs.declared.Media.{Media}
 use Rattle.kinds.specs.declared.Two.{Two}
 use Rattle.kinds.specs.declared.Three.{Three}
 use Rattle.kinds.specs.declared.Sequence.{Sequence}
-use Rattle.kinds.specs.declared.Job.{Job}
 use Rattle.kinds.specs.declared.Project.{Project}
 use Rattle.kinds.specs.declared.Occupation.{Occupation}
 use Rattle.kinds.specs.declared.Measurement.{Measurement}
-use Rattle.kinds.specs.declared.Instrument.{Instrument}
-use Rattle.kinds.specs.declared.Antenna.{Antenna}
 use Rattle.kinds.specs.declared.Point.{Point}
 use Rattle.kinds.specs.declared.Heights.{Heights}
 use Rattle.kinds.specs.declared.Network.{Network}

@@ -7,7 +7,7 @@ use native.Mathlib.Omega.{arith}
 use lib.ListN.{length, take, drop, get_or, set, replicate, drop_of_length-le}
 use lib.Seq.{length-take-le, drop-cons}
 use Rattle.rules.specs.Tests.{all, ◌&◌, ◌≤?◌, within}
-use Rattle.rules.specs.Fields.{anything, Verdict, ok, fault, ◌⨾◌, is_ok}
+use Rattle.rules.specs.Fields.{anything, Verdict, ok, fault, is_ok}
 use Rattle.rules.specs.Layouts.{layout}
 use Rattle.rules.specs.Records.{code_at, entries, numbered, read_line, meaning, style, formed_line}
 use Rattle.rules.specs.Kinds.{kind_of, known}

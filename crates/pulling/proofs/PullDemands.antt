@@ -3,7 +3,7 @@ use mathlib.Core.Path.{◌≡◌, refl, sym, ◌∙◌, ap}
 use mathlib.Core.Logic.{◌⊎◌, inl, inr}
 use mathlib.Core.Bool.{true, false}
 use mathlib.Core.List.{List, [], ◌++◌}
-use Prim.Native.Nat.{ℕ, ◌+◌, ◌*◌, ◌≤◌, ◌<◌}
+use Prim.Native.Nat.{ℕ, ◌*◌, ◌≤◌, ◌<◌}
 use native.Mathlib.Omega.{arith}
 use lib.ListN.{length, length-append, length-drop, length-map, take, drop, get_or, get_or-append}
 use lib.Seq.{take_at, drop_at}
@@ -16,7 +16,6 @@ use Rattle.rules.specs.Pulling.{line_for, fault_for, pulled_line, pulled_fault, 
 use Rattle.rules.proofs.Truth.{cases, to≤, no≤, map_at, either}
 use Rattle.rules.proofs.FileLaws.{line_within}
 use Rattle.rules.proofs.PullingLaws.{pulled_long, pulled_at, fault_shown, blank_exactly}
-use Rattle.kinds.specs.declared.Reading.{Reading}
 use Rattle.kinds.specs.Values.{fault_of, reading_of}
 use Rattle.pulling.specs.declared.Pulled.{Pulled}
 use Rattle.pulling.specs.Promise.{pulled_of, Promised, Refusing, number_in, Stands, Pulling}

@@ -13,7 +13,7 @@ use Rattle.rules.specs.Items.{Value, gap, missing, num, text, label, Item, blank
 use Rattle.rules.specs.Fields.{Field, given, entries_of, is_formed, formed}
 use Rattle.rules.specs.Records.{Meaning, told, meant}
 use Rattle.rules.specs.Kinds.{data_codes, kind_from, starred, kind_between, kind_of, known}
-use Rattle.rules.specs.Layouts.{at, kept, layouts, layout}
+use Rattle.rules.specs.Layouts.{kept, layouts, layout}
 use Rattle.rules.specs.Chapter4.{chapter4}
 use Rattle.rules.proofs.Truth.{both, to≤, to≡, of≢, cases, to_within}
 use Rattle.columns.specs.Types.{nat_of, int_of, height_of, height_value, media_of, media_value, four, four_of}

@@ -2,13 +2,13 @@
 use mathlib.Core.Path.{◌≡◌, refl, sym, ap, ◌∙◌}
 use mathlib.Core.Bool.{true}
 use mathlib.Core.List.{List, [], ◌++◌}
-use Prim.Native.Nat.{ℕ, ◌+◌, ◌-◌, ◌≤◌}
+use Prim.Native.Nat.{ℕ, ◌-◌, ◌≤◌}
 use native.Mathlib.Omega.{arith}
 use lib.ListN.{length, get_or, take, drop}
 use lib.IntN.{pos, negsuc}
 use Rattle.rules.specs.Tests.{◌&◌, ◌≤?◌, within}
 use Rattle.rules.specs.Items.{Value, gap, missing, num, text, label, value_of, fits, on_number}
-use Rattle.rules.specs.Fields.{Verdict, ok, fault, check, ◌⨾◌, is_ok}
+use Rattle.rules.specs.Fields.{Verdict, ok, fault, check, is_ok}
 use Rattle.rules.specs.Records.{sequence, code_at, read_line, meaning, judge_given, line_of, formed_line, meant}
 use Rattle.rules.specs.Kinds.{kind_of, known}
 use Rattle.rules.specs.Layouts.{layout}

@@ -1,7 +1,5 @@
 use borrow.Author.Rules.{rules}
 use Rattle.pulling.proofs.EntryLaws.{quick_zero, judged_zero, judged_number}
-use Rattle.pulling.proofs.fault_in.Reads as reads
-use Rattle.pulling.proofs.fault_in.Lts as lts
 use Rattle.pulling.proofs.fault_in.Goals as goal
 
 pub returns-then-fits : goal.returns-then-fits

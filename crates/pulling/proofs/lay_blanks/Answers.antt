@@ -1,7 +1,5 @@
 use borrow.Author.Rules.{rules}
 use Rattle.pulling.proofs.EntryLaws.{blanks-laid}
-use Rattle.pulling.proofs.lay_blanks.Reads as reads
-use Rattle.pulling.proofs.lay_blanks.Lts as lts
 use Rattle.pulling.proofs.lay_blanks.Goals as goal
 
 pub returns : goal.returns

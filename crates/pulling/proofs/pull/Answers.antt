@@ -1,7 +1,5 @@
 use borrow.Author.Rules.{rules}
 use Rattle.pulling.proofs.PullLaws.{refused_answer, refused_output, refused-faults, pull_room_lem, pull_places, pulled_answer, pulled_output, pulled_faults_lem}
-use Rattle.pulling.proofs.pull.Reads as reads
-use Rattle.pulling.proofs.pull.Lts as lts
 use Rattle.pulling.proofs.pull.Goals as goal
 
 pub returns-then-out-n : goal.returns-then-out-n

@@ -1,9 +1,6 @@
 -- The invariant: what stands for the entries so far, with what is still to stand for the rest, is what stands for all.
 use borrow.Author.Rules.{rules}
-use Prim.Native.Nat.{◌-◌}
-use Rattle.pulling.proofs.DrawingLaws.{Drawing, draw_from, draw_next, draw_done}
-use Rattle.pulling.proofs.pull_entries.Reads as reads
-use Rattle.pulling.proofs.pull_entries.Lts as lts
+use Rattle.pulling.proofs.DrawingLaws.{draw_from, draw_next, draw_done}
 use Rattle.pulling.proofs.pull_entries.Goals as goal
 
 pub loop-i-init : goal.loop-i-init

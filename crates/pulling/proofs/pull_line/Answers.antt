@@ -1,7 +1,5 @@
 use borrow.Author.Rules.{rules}
 use Rattle.pulling.proofs.EntryLaws.{pull_formed, pull_good, pull_bad}
-use Rattle.pulling.proofs.pull_line.Reads as reads
-use Rattle.pulling.proofs.pull_line.Lts as lts
 use Rattle.pulling.proofs.pull_line.Goals as goal
 
 pub returns-then-fault-ne0 : goal.returns-then-fault-ne0

@@ -1,7 +1,5 @@
 use borrow.Author.Rules.{rules}
 use Rattle.pulling.proofs.EntryLaws.{line_most, asked_low, asked_high, asked_line, asked_none}
-use Rattle.pulling.proofs.pull_record.Reads as reads
-use Rattle.pulling.proofs.pull_record.Lts as lts
 use Rattle.pulling.proofs.pull_record.Goals as goal
 
 pub overflow_sub-r : goal.overflow_sub-r

@@ -1,7 +1,6 @@
 -- The invariant: what is laid so far, with what is left in house style, is the rewritten file.
-use borrow.Author.Rules.{rules}
 use Prim.Native.Nat.{◌-◌}
-use Rattle.rewriting.proofs.LayingLaws.{Laying, lay_from, lay-formed, lay_long, lay-known, lay_next, lay_done}
+use Rattle.rewriting.proofs.LayingLaws.{Laying}
 use Rattle.rewriting.proofs.style_lines.Given as goal
 
 abbrev pub invariant-loop-i : goal.invariant-loop-i

@@ -1,9 +1,8 @@
 -- The invariant: the lines of the kinds so far are laid one after the other, and what lies outside is as it was.
-use borrow.Author.Rules.{rules}
 use mathlib.Core.Path.{◌≡◌}
 use Prim.Native.Nat.{◌-◌}
 use lib.ListN.{length}
-use Rattle.listing.proofs.LineLaws.{Listed, list_from, list_on, list_end}
+use Rattle.listing.proofs.LineLaws.{Listed}
 use Rattle.listing.proofs.lines.list_kinds.Given as goal
 
 abbrev pub invariant-loop-kind : goal.invariant-loop-kind

@@ -1,10 +1,8 @@
 -- The invariant: what is left without the zeros in front is the whole without them.
-use borrow.Author.Rules.{rules}
 use mathlib.Core.Path.{◌≡◌}
 use Prim.Native.Nat.{◌-◌, ◌≤◌}
 use lib.ListN.{length, drop}
 use Rattle.rules.specs.Digits.{stripped}
-use Rattle.listing.proofs.LayLaws.{zeros_on_lem, zeros_found, zeros_end}
 use Rattle.listing.proofs.words.count_zeros.Given as goal
 
 abbrev pub invariant-loop-i : goal.invariant-loop-i
