@@ -60,10 +60,8 @@ fn show_field(rt: &impl Print, file: &[u8], r: usize, c: usize) -> io::Result<()
 }
 
 fn show_fields(rt: &impl Print, file: &[u8], r: usize) -> io::Result<()> {
-    let mut c: usize = 0;
-    while c < 83 {
+    for c in 0..83 {
         show_field(rt, file, r, c)?;
-        c += 1;
     }
     text(rt, b"\n")
 }
@@ -105,9 +103,7 @@ fn show(rt: &impl Print, file: &[u8], r: usize) -> io::Result<()> {
 fn show_all(rt: &impl Print, file: &[u8]) -> io::Result<()> {
     show(rt, file, 0)?;
     let last = reading::lines::count_begun(file);
-    let mut r: usize = 0;
-    while r < last {
-        r += 1;
+    for r in 1..=last {
         show(rt, file, r)?;
     }
     show(rt, file, 100_000)

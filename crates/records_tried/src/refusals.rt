@@ -8,7 +8,13 @@ use kinds::{
 use std::io;
 
 // Writes into an output of dots.
-fn refused(rt: &impl Print, sequence: Sequence, what: Record, first: &[u8], second: &[u8]) -> io::Result<()> {
+fn refused(
+    rt: &impl Print,
+    sequence: Sequence,
+    what: Record,
+    first: &[u8],
+    second: &[u8],
+) -> io::Result<()> {
     let mut out = [b'.'; 82];
     let w = writing::write(&mut out, sequence, what, first, second, b"");
     text(rt, &out[0..1])?;
@@ -27,10 +33,34 @@ fn points(rt: &impl Print) -> io::Result<()> {
     let name = b"HILL 1931                     ";
     refused(rt, Sequence::Missing, point(0, 0, 0), name, b"")?;
     refused(rt, Sequence::Missing, point(10000, 0, 0), name, b"")?;
-    refused(rt, Sequence::Missing, point(1, 32_400_000_001, 0), name, b"")?;
-    refused(rt, Sequence::Missing, point(1, -32_400_000_001, 0), name, b"")?;
-    refused(rt, Sequence::Missing, point(1, 0, 64_800_000_001), name, b"")?;
-    refused(rt, Sequence::Missing, point(1, 0, -64_800_000_000), name, b"")
+    refused(
+        rt,
+        Sequence::Missing,
+        point(1, 32_400_000_001, 0),
+        name,
+        b"",
+    )?;
+    refused(
+        rt,
+        Sequence::Missing,
+        point(1, -32_400_000_001, 0),
+        name,
+        b"",
+    )?;
+    refused(
+        rt,
+        Sequence::Missing,
+        point(1, 0, 64_800_000_001),
+        name,
+        b"",
+    )?;
+    refused(
+        rt,
+        Sequence::Missing,
+        point(1, 0, -64_800_000_000),
+        name,
+        b"",
+    )
 }
 
 fn more_points(rt: &impl Print) -> io::Result<()> {
@@ -105,7 +135,14 @@ fn measurements(rt: &impl Print) -> io::Result<()> {
     measurement(rt, 100_000)
 }
 
-fn heights(rt: &impl Print, orthometric: Height, code: u8, indicator: u8, geoid: Height, model: u8) -> io::Result<()> {
+fn heights(
+    rt: &impl Print,
+    orthometric: Height,
+    code: u8,
+    indicator: u8,
+    geoid: Height,
+    model: u8,
+) -> io::Result<()> {
     let blank = Two(b' ', b' ');
     let h = Heights::new(
         1,
@@ -133,12 +170,33 @@ fn all_heights(rt: &impl Print) -> io::Result<()> {
     heights(rt, Height::Missing, b' ', b' ', Height::Missing, b' ')?;
     heights(rt, Height::Missing, b'A', b' ', Height::Missing, b' ')?;
     heights(rt, Height::Mm(0), b'A', b' ', Height::Missing, b' ')?;
-    heights(rt, Height::Mm(-1_000_000), b'A', b'Y', Height::Missing, b' ')?;
+    heights(
+        rt,
+        Height::Mm(-1_000_000),
+        b'A',
+        b'Y',
+        Height::Missing,
+        b' ',
+    )?;
     heights(rt, Height::Mm(-999_999), b'A', b'Y', Height::Mm(-500), b' ')?;
-    heights(rt, Height::Mm(10_000_000), b'A', b'Y', Height::Mm(-500), b'6')
+    heights(
+        rt,
+        Height::Mm(10_000_000),
+        b'A',
+        b'Y',
+        Height::Mm(-500),
+        b'6',
+    )
 }
 
-fn network(rt: &impl Print, north: u64, east: u64, correlation: i64, ellipsoid: u64, scaled: u8) -> io::Result<()> {
+fn network(
+    rt: &impl Print,
+    north: u64,
+    east: u64,
+    correlation: i64,
+    ellipsoid: u64,
+    scaled: u8,
+) -> io::Result<()> {
     let n = Network::new(1, north, east, correlation, ellipsoid, scaled);
     refused(
         rt,
@@ -160,7 +218,13 @@ fn networks(rt: &impl Print) -> io::Result<()> {
     network(rt, 0, 0, 0, 0, b' ')
 }
 
-fn local(rt: &impl Print, standpoint: u32, forepoint: u32, north: u64, comment: &[u8]) -> io::Result<()> {
+fn local(
+    rt: &impl Print,
+    standpoint: u32,
+    forepoint: u32,
+    north: u64,
+    comment: &[u8],
+) -> io::Result<()> {
     let l = Local::new(standpoint, forepoint, north, 0, 0, 0, b'N');
     refused(rt, Sequence::Missing, Record::Local(l), comment, b"")
 }
