@@ -6,7 +6,11 @@ use crate::print::{size, text};
 use std::io;
 use std::rt::Files;
 
-pub(crate) fn rewrite_file(rt: &(impl Files + Eprint), path: &[u8], out: &mut [u8; 65536]) -> io::Result<()> {
+pub(crate) fn rewrite_file(
+    rt: &(impl Files + Eprint),
+    path: &[u8],
+    out: &mut [u8; 65536],
+) -> io::Result<()> {
     let mut space = [0u8; 65536];
     let n = read_file(rt, path, &mut space)?;
     let mut table = [0u32; 12000];
@@ -14,7 +18,11 @@ pub(crate) fn rewrite_file(rt: &(impl Files + Eprint), path: &[u8], out: &mut [u
     Ok(())
 }
 
-pub(crate) fn compare_files(rt: &(impl Files + Print + Eprint), one: &[u8], other: &[u8]) -> io::Result<()> {
+pub(crate) fn compare_files(
+    rt: &(impl Files + Print + Eprint),
+    one: &[u8],
+    other: &[u8],
+) -> io::Result<()> {
     let mut first = [BYTE; 65536];
     let mut second = [BYTE; 65536];
     rewrite_file(rt, one, &mut first)?;

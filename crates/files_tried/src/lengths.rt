@@ -21,7 +21,13 @@ fn try_rewrite(rt: &impl Print, file: &[u8], table: &mut [u32], out: &mut [u8]) 
 }
 
 // Lends so many bytes of the space.
-fn try_part(rt: &impl Print, file: &[u8], table: &mut [u32], n: usize, space: &mut [u8]) -> io::Result<()> {
+fn try_part(
+    rt: &impl Print,
+    file: &[u8],
+    table: &mut [u32],
+    n: usize,
+    space: &mut [u8],
+) -> io::Result<()> {
     if n <= space.len() {
         try_rewrite(rt, file, table, &mut space[0..n])?;
     }
@@ -53,7 +59,10 @@ fn short_output(rt: &impl Print, file: &[u8]) -> io::Result<()> {
 
 fn shortest(rt: &impl Print, file: &[u8]) -> io::Result<()> {
     let mut table = [WORD; 12000];
-    text(rt, b"a table of 12000 words and an output as long as the file\n")?;
+    text(
+        rt,
+        b"a table of 12000 words and an output as long as the file\n",
+    )?;
     try_output(rt, file, &mut table, file.len())
 }
 

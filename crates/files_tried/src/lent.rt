@@ -20,10 +20,8 @@ fn show_kept(rt: &impl Print, kept: usize, all: usize) -> io::Result<()> {
 
 fn count_words(table: &[u32]) -> usize {
     let mut n: usize = 0;
-    let mut i: usize = 0;
-    while i < table.len() {
-        n += one_if(table[i] == WORD);
-        i += 1;
+    for word in table {
+        n += one_if(*word == WORD);
     }
     n
 }
@@ -32,10 +30,8 @@ fn count_bytes(out: &[u8]) -> usize
     ensures { result ≤ length out.now }
 {
     let mut n: usize = 0;
-    let mut i: usize = 0;
-    while i < out.len() {
-        n += one_if(out[i] == BYTE);
-        i += 1;
+    for byte in out {
+        n += one_if(*byte == BYTE);
     }
     n
 }

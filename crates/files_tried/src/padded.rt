@@ -28,10 +28,8 @@ fn show_byte(rt: &impl Print, b: u8) -> io::Result<()> {
 }
 
 pub(crate) fn show_lines(rt: &impl Print, part: &[u8]) -> io::Result<()> {
-    let mut i: usize = 0;
-    while i < part.len() {
-        show_byte(rt, part[i])?;
-        i += 1;
+    for b in part {
+        show_byte(rt, *b)?;
     }
     Ok(())
 }
@@ -126,7 +124,11 @@ fn pad_file(rt: &(impl Files + Eprint), path: &[u8], out: &mut [u8; 65536]) -> i
     Ok(())
 }
 
-pub(crate) fn show_differing(rt: &impl Print, one: &[u8; 65536], other: &[u8; 65536]) -> io::Result<()> {
+pub(crate) fn show_differing(
+    rt: &impl Print,
+    one: &[u8; 65536],
+    other: &[u8; 65536],
+) -> io::Result<()> {
     text(rt, b": bytes that differ ")?;
     size(rt, bytes_differing(one, other))?;
     text(rt, b"\n")
@@ -149,7 +151,11 @@ fn rewrite_lines(rt: &impl Print, lines: &[u8; 65536], out: &mut [u8; 65536]) ->
     show_checked(rt, checked)
 }
 
-fn rewrite_padded(rt: &(impl Files + Print + Eprint), input: &[u8], out: &mut [u8; 65536]) -> io::Result<()> {
+fn rewrite_padded(
+    rt: &(impl Files + Print + Eprint),
+    input: &[u8],
+    out: &mut [u8; 65536],
+) -> io::Result<()> {
     let mut lines = [BYTE; 65536];
     pad_file(rt, input, &mut lines)?;
     text(rt, input)?;
@@ -157,7 +163,11 @@ fn rewrite_padded(rt: &(impl Files + Print + Eprint), input: &[u8], out: &mut [u
     rewrite_lines(rt, &lines, out)
 }
 
-fn compare_rewritten(rt: &(impl Files + Print + Eprint), input: &[u8], file: &[u8]) -> io::Result<()> {
+fn compare_rewritten(
+    rt: &(impl Files + Print + Eprint),
+    input: &[u8],
+    file: &[u8],
+) -> io::Result<()> {
     let mut first = [BYTE; 65536];
     let mut second = [BYTE; 65536];
     rewrite_padded(rt, input, &mut first)?;
@@ -170,8 +180,20 @@ fn compare_rewritten(rt: &(impl Files + Print + Eprint), input: &[u8], file: &[u
 
 pub(crate) fn compare_inputs(rt: &(impl Files + Print + Eprint)) -> io::Result<()> {
     compare_padded(rt, b"padding_trimmed_lf.bfile", b"accepted_all_kinds.bfile")?;
-    compare_padded(rt, b"padding_trimmed_cr_lf.bfile", b"accepted_all_kinds.bfile")?;
-    compare_padded(rt, b"padding_trimmed_mixed.bfile", b"accepted_all_kinds.bfile")?;
+    compare_padded(
+        rt,
+        b"padding_trimmed_cr_lf.bfile",
+        b"accepted_all_kinds.bfile",
+    )?;
+    compare_padded(
+        rt,
+        b"padding_trimmed_mixed.bfile",
+        b"accepted_all_kinds.bfile",
+    )?;
     compare_padded(rt, b"accepted_all_kinds.bfile", b"accepted_all_kinds.bfile")?;
-    compare_rewritten(rt, b"padding_trimmed_cr_lf.bfile", b"accepted_all_kinds.bfile")
+    compare_rewritten(
+        rt,
+        b"padding_trimmed_cr_lf.bfile",
+        b"accepted_all_kinds.bfile",
+    )
 }

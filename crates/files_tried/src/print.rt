@@ -36,10 +36,8 @@ fn show_count(rt: &impl Print, n: u32) -> io::Result<()> {
 // In the order AA 10 11 12 25 26 27 70 72 80 86 91 92 93.
 fn show_counts(rt: &impl Print, counts: &[u32; 14]) -> io::Result<()> {
     text(rt, b"counts")?;
-    let mut i: usize = 0;
-    while i < 14 {
-        show_count(rt, counts[i])?;
-        i += 1;
+    for n in counts {
+        show_count(rt, *n)?;
     }
     text(rt, b"\n")
 }

@@ -22,10 +22,8 @@ fn show_word(rt: &impl Print, n: u32) -> io::Result<()> {
 }
 
 fn show_words(rt: &impl Print, words: &[u32]) -> io::Result<()> {
-    let mut i: usize = 0;
-    while i < words.len() {
-        show_word(rt, words[i])?;
-        i += 1;
+    for n in words {
+        show_word(rt, *n)?;
     }
     text(rt, b"\n")
 }
@@ -40,7 +38,13 @@ fn show_pulled(rt: &impl Print, number: u32, entries: usize, out: &[u8]) -> io::
     Ok(())
 }
 
-fn try_lent(rt: &impl Print, file: &[u8], records: &[u32], out: &mut [u8], faults: &mut [u32]) -> io::Result<()> {
+fn try_lent(
+    rt: &impl Print,
+    file: &[u8],
+    records: &[u32],
+    out: &mut [u8],
+    faults: &mut [u32],
+) -> io::Result<()> {
     let p = pulling::pull(file, records, out, faults);
     let fault = p.fault;
     text(rt, b"pull ")?;
@@ -71,7 +75,13 @@ fn try_lengths(
     Ok(())
 }
 
-fn try_pull(rt: &(impl Files + Print + Eprint), path: &[u8], records: &[u32], room: usize, places: usize) -> io::Result<()> {
+fn try_pull(
+    rt: &(impl Files + Print + Eprint),
+    path: &[u8],
+    records: &[u32],
+    room: usize,
+    places: usize,
+) -> io::Result<()> {
     let mut space = [0u8; 65536];
     let n = read_file(rt, path, &mut space)?;
     text(rt, b"pulled from ")?;
@@ -80,7 +90,15 @@ fn try_pull(rt: &(impl Files + Print + Eprint), path: &[u8], records: &[u32], ro
     show_words(rt, records)?;
     let mut out = [BYTE; ROOM];
     let mut faults = [WORD; PLACES];
-    try_lengths(rt, &space[..n], records, room, places, &mut out, &mut faults)
+    try_lengths(
+        rt,
+        &space[..n],
+        records,
+        room,
+        places,
+        &mut out,
+        &mut faults,
+    )
 }
 
 // With three bytes and two places more than the entries need.
@@ -147,10 +165,8 @@ pub(crate) fn try_pulls(rt: &(impl Files + Print + Eprint)) -> io::Result<()> {
 
 // The numbers from 1 on.
 fn number_all(list: &mut [u32; MOST]) {
-    let mut i: usize = 0;
-    while i < MOST {
+    for i in 0..MOST {
         list[i] = i as u32 + 1;
-        i += 1;
     }
 }
 

@@ -26,10 +26,8 @@ fn show_filled(rt: &impl Print, i: usize, held: u32, before: usize) -> io::Resul
 
 fn show_words(rt: &impl Print, table: &[u32; 12001]) -> io::Result<usize> {
     let mut n: usize = 0;
-    let mut i: usize = 0;
-    while i < 12000 {
+    for i in 0..12000 {
         n += show_filled(rt, i, table[i], n)?;
-        i += 1;
     }
     Ok(n)
 }

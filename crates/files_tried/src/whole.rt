@@ -4,7 +4,6 @@ use crate::lent::{BYTE, WORD, show_kept_bytes};
 use crate::print::{number, show_checked, show_fault, size, text};
 use crate::table::show_table;
 use kinds::Fault;
-use std::num::wrapping_add_u64;
 use std::io;
 
 fn wide(byte: u8) -> u64 {
@@ -15,11 +14,9 @@ fn wide(byte: u8) -> u64 {
 fn sum_of_sums(part: &[u8]) -> u64 {
     let mut sum: u64 = 0;
     let mut sums: u64 = 0;
-    let mut i: usize = 0;
-    while i < part.len() {
-        sum = wrapping_add_u64(sum, wide(part[i]));
-        sums = wrapping_add_u64(sums, sum);
-        i += 1;
+    for byte in part {
+        sum = sum.wrapping_add(wide(*byte));
+        sums = sums.wrapping_add(sum);
     }
     sums
 }
@@ -71,7 +68,12 @@ fn try_references(rt: &impl Print, file: &[u8], table: &mut [u32; 12001]) -> io:
     show_table(rt, table)
 }
 
-fn try_rewrite(rt: &impl Print, file: &[u8], before: &[u32; 12001], out: &mut [u8]) -> io::Result<()> {
+fn try_rewrite(
+    rt: &impl Print,
+    file: &[u8],
+    before: &[u32; 12001],
+    out: &mut [u8],
+) -> io::Result<()> {
     let mut table = [WORD; 12001];
     text(rt, b"rewrite ")?;
     let checked = rewriting::rewrite(file, &mut table, out);
