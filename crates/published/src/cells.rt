@@ -55,14 +55,12 @@ fn start_of(line: &[u8], k: usize) -> usize
 {
     let n = line.len();
     let mut at: usize = 0;
-    let mut i: usize = 0;
-    while i < k {
+    for _ in 0..k {
         let end = find(line, at, n, TAB);
         if end == n {
             return n;
         }
         at = end + 1;
-        i += 1;
     }
     at
 }

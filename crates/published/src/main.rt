@@ -27,7 +27,12 @@ struct Tally {
 }
 
 // The file of an example, with the columns given put into their place.
-fn load(rt: &(impl Files + Eprint), line: &[u8], spot: Spot, space: &mut [u8; SPACE]) -> io::Result<usize> {
+fn load(
+    rt: &(impl Files + Eprint),
+    line: &[u8],
+    spot: Spot,
+    space: &mut [u8; SPACE],
+) -> io::Result<usize> {
     let n = read_file(rt, cell(line, FILE), space)?;
     lay(space, spot.start, cell(line, GIVEN));
     Ok(n)

@@ -32,7 +32,12 @@ fn show_verdict(rt: &impl Print, is_same: bool) -> io::Result<()> {
     }
 }
 
-pub(crate) fn show_example(rt: &impl Print, line: &[u8], came: &[u8], is_same: bool) -> io::Result<()> {
+pub(crate) fn show_example(
+    rt: &impl Print,
+    line: &[u8],
+    came: &[u8],
+    is_same: bool,
+) -> io::Result<()> {
     show_name(rt, line)?;
     text(rt, came)?;
     text(rt, b" | ")?;

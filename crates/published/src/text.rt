@@ -28,10 +28,8 @@ pub(crate) fn put(out: &mut [u8; SPACE], at: usize, byte: u8) -> usize {
 
 pub(crate) fn lay(out: &mut [u8; SPACE], at: usize, part: &[u8]) -> usize {
     let mut end = at;
-    let mut i: usize = 0;
-    while i < part.len() {
-        end = put(out, end, part[i]);
-        i += 1;
+    for byte in part {
+        end = put(out, end, *byte);
     }
     end
 }
