@@ -22,10 +22,8 @@ pub(crate) fn words_differing(one: &[u32], other: &[u32]) -> usize {
 // How many bytes of one differ from those of the other.
 pub(crate) fn bytes_differing(one: &[u8; 65536], other: &[u8; 65536]) -> usize {
     let mut n: usize = 0;
-    let mut i: usize = 0;
-    while i < 65536 {
+    for i in 0..65536 {
         n += one_if(one[i] != other[i]);
-        i += 1;
     }
     n
 }

@@ -3,23 +3,34 @@ use crate::compare::bytes_differing;
 use crate::input::read_file;
 use crate::lent::BYTE;
 use crate::print::{size, text};
+use std::io;
+use std::rt::Files;
 
-pub(crate) fn rewrite_file(path: &[u8], out: &mut [u8; 65536]) {
-    let mut space = io::large_buffer();
-    let n = read_file(path, &mut space);
+pub(crate) fn rewrite_file(
+    rt: &(impl Files + Eprint),
+    path: &[u8],
+    out: &mut [u8; 65536],
+) -> io::Result<()> {
+    let mut space = [0u8; 65536];
+    let n = read_file(rt, path, &mut space)?;
     let mut table = [0u32; 12000];
     rewriting::rewrite(&space[..n], &mut table, out);
+    Ok(())
 }
 
-pub(crate) fn compare_files(one: &[u8], other: &[u8]) {
+pub(crate) fn compare_files(
+    rt: &(impl Files + Print + Eprint),
+    one: &[u8],
+    other: &[u8],
+) -> io::Result<()> {
     let mut first = [BYTE; 65536];
     let mut second = [BYTE; 65536];
-    rewrite_file(one, &mut first);
-    rewrite_file(other, &mut second);
-    text(one);
-    text(b" and ");
-    text(other);
-    text(b" rewritten: bytes that differ ");
-    size(bytes_differing(&first, &second));
-    text(b"\n");
+    rewrite_file(rt, one, &mut first)?;
+    rewrite_file(rt, other, &mut second)?;
+    text(rt, one)?;
+    text(rt, b" and ")?;
+    text(rt, other)?;
+    text(rt, b" rewritten: bytes that differ ")?;
+    size(rt, bytes_differing(&first, &second))?;
+    text(rt, b"\n")
 }

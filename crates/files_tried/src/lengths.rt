@@ -2,68 +2,81 @@
 use crate::input::read_file;
 use crate::lent::{BYTE, WORD, show_kept_bytes, show_kept_words};
 use crate::print::{show_checked, show_fault, text};
+use std::io;
+use std::rt::Files;
 
-fn show_table(table: &[u32]) {
-    text(b"words of the table: ");
-    show_kept_words(table);
+fn show_table(rt: &impl Print, table: &[u32]) -> io::Result<()> {
+    text(rt, b"words of the table: ")?;
+    show_kept_words(rt, table)
 }
 
-fn try_rewrite(file: &[u8], table: &mut [u32], out: &mut [u8]) {
-    text(b"rewrite ");
+fn try_rewrite(rt: &impl Print, file: &[u8], table: &mut [u32], out: &mut [u8]) -> io::Result<()> {
+    text(rt, b"rewrite ")?;
     let checked = rewriting::rewrite(file, table, out);
-    show_checked(checked);
-    show_table(table);
-    text(b"bytes of the output: ");
-    show_kept_bytes(out);
-    text(b"\n");
+    show_checked(rt, checked)?;
+    show_table(rt, table)?;
+    text(rt, b"bytes of the output: ")?;
+    show_kept_bytes(rt, out)?;
+    text(rt, b"\n")
 }
 
 // Lends so many bytes of the space.
-fn try_part(file: &[u8], table: &mut [u32], n: usize, space: &mut [u8]) {
+fn try_part(
+    rt: &impl Print,
+    file: &[u8],
+    table: &mut [u32],
+    n: usize,
+    space: &mut [u8],
+) -> io::Result<()> {
     if n <= space.len() {
-        try_rewrite(file, table, &mut space[0..n]);
+        try_rewrite(rt, file, table, &mut space[0..n])?;
     }
+    Ok(())
 }
 
-fn try_output(file: &[u8], table: &mut [u32], n: usize) {
+fn try_output(rt: &impl Print, file: &[u8], table: &mut [u32], n: usize) -> io::Result<()> {
     let mut space = [BYTE; 65536];
-    try_part(file, table, n, &mut space);
+    try_part(rt, file, table, n, &mut space)
 }
 
-fn short_table(file: &[u8]) {
+fn short_table(rt: &impl Print, file: &[u8]) -> io::Result<()> {
     let mut table = [WORD; 11999];
-    text(b"a table of 11999 words\nreferences ");
+    text(rt, b"a table of 11999 words\nreferences ")?;
     let fault = walk::references(file, &mut table);
-    show_fault(fault);
-    show_table(&table);
-    try_output(file, &mut table, file.len());
+    show_fault(rt, fault)?;
+    show_table(rt, &table)?;
+    try_output(rt, file, &mut table, file.len())
 }
 
-fn short_output(file: &[u8]) {
+fn short_output(rt: &impl Print, file: &[u8]) -> io::Result<()> {
     let mut table = [WORD; 12000];
-    text(b"an output of a byte less than the file\n");
+    text(rt, b"an output of a byte less than the file\n")?;
     if 0 < file.len() {
-        try_output(file, &mut table, file.len() - 1);
+        try_output(rt, file, &mut table, file.len() - 1)?;
     }
+    Ok(())
 }
 
-fn shortest(file: &[u8]) {
+fn shortest(rt: &impl Print, file: &[u8]) -> io::Result<()> {
     let mut table = [WORD; 12000];
-    text(b"a table of 12000 words and an output as long as the file\n");
-    try_output(file, &mut table, file.len());
+    text(
+        rt,
+        b"a table of 12000 words and an output as long as the file\n",
+    )?;
+    try_output(rt, file, &mut table, file.len())
 }
 
-fn try_file(file: &[u8]) {
-    short_table(file);
-    short_output(file);
-    shortest(file);
+fn try_file(rt: &impl Print, file: &[u8]) -> io::Result<()> {
+    short_table(rt, file)?;
+    short_output(rt, file)?;
+    shortest(rt, file)
 }
 
-pub(crate) fn try_lengths(path: &[u8]) {
-    let mut space = io::large_buffer();
-    let n = read_file(path, &mut space);
-    text(b"lengths, ");
-    text(path);
-    text(b"\n\n");
-    try_file(&space[..n]);
+pub(crate) fn try_lengths(rt: &(impl Files + Print + Eprint), path: &[u8]) -> io::Result<()> {
+    let mut space = [0u8; 65536];
+    let n = read_file(rt, path, &mut space)?;
+    text(rt, b"lengths, ")?;
+    text(rt, path)?;
+    text(rt, b"\n\n")?;
+    try_file(rt, &space[..n])
 }

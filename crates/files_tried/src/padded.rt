@@ -6,6 +6,8 @@ use crate::lent::{BYTE, WORD, show_changed_bytes};
 use crate::print::{show_checked, show_fault, size, text, word};
 use columns::parts::middle;
 use padding::Padded;
+use std::io;
+use std::rt::Files;
 
 // The bytes lent to each input: 34 lines, one more than the longest of them has.
 const ROOM: usize = 2754;
@@ -14,160 +16,184 @@ const ROOM: usize = 2754;
 const ENOUGH: usize = 2673;
 
 // A mark stands at the end of each line, so that its blanks are seen.
-fn show_byte(b: u8) {
+fn show_byte(rt: &impl Print, b: u8) -> io::Result<()> {
     if b == 13 {
-        text(b"\\r");
-        return;
+        return text(rt, b"\\r");
     }
     if b == 10 {
-        text(b"|\n");
-        return;
+        return text(rt, b"|\n");
     }
     let one = [b];
-    text(&one);
+    text(rt, &one)
 }
 
-pub(crate) fn show_lines(part: &[u8]) {
-    let mut i: usize = 0;
-    while i < part.len() {
-        show_byte(part[i]);
-        i += 1;
+pub(crate) fn show_lines(rt: &impl Print, part: &[u8]) -> io::Result<()> {
+    for b in part {
+        show_byte(rt, *b)?;
     }
+    Ok(())
 }
 
 // Up to four lines are printed; whether more are the right ones is seen where they are compared.
-fn show_part(part: &[u8]) {
+fn show_part(rt: &impl Print, part: &[u8]) -> io::Result<()> {
     if part.len() <= 324 {
-        show_lines(part);
+        show_lines(rt, part)?;
     }
-    text(b"form ");
+    text(rt, b"form ")?;
     let checked = walk::form(part);
-    show_checked(checked);
+    show_checked(rt, checked)?;
     let mut table = [WORD; 12000];
-    text(b"references ");
+    text(rt, b"references ")?;
     let fault = walk::references(part, &mut table);
-    show_fault(fault);
+    show_fault(rt, fault)
 }
 
 // The lines are the first bytes of the output.
-fn show_padded(lines: u32, out: &[u8]) {
+fn show_padded(rt: &impl Print, lines: u32, out: &[u8]) -> io::Result<()> {
     if lines <= 34 {
         let n = 81 * (lines as usize);
         if n <= out.len() {
-            show_part(&out[0..n]);
+            show_part(rt, &out[0..n])?;
         }
     }
+    Ok(())
 }
 
-fn show_answer(p: Padded) {
-    text(b"pad ");
-    show_fault(p.fault);
-    text(b"lines ");
-    word(p.lines);
-    text(b"\n");
+fn show_answer(rt: &impl Print, p: Padded) -> io::Result<()> {
+    text(rt, b"pad ")?;
+    show_fault(rt, p.fault)?;
+    text(rt, b"lines ")?;
+    word(rt, p.lines)?;
+    text(rt, b"\n")
 }
 
-fn try_pad(input: &[u8], out: &mut [u8]) {
+fn try_pad(rt: &impl Print, input: &[u8], out: &mut [u8]) -> io::Result<()> {
     let p = padding::pad(input, out);
-    show_answer(p);
-    text(b"bytes of the output: ");
-    show_changed_bytes(out);
+    show_answer(rt, p)?;
+    text(rt, b"bytes of the output: ")?;
+    show_changed_bytes(rt, out)?;
     if p.fault.number == 0 {
-        show_padded(p.lines, out);
+        show_padded(rt, p.lines, out)?;
     }
-    text(b"\n");
+    text(rt, b"\n")
 }
 
 // Lends so many bytes of the space.
-fn try_room(input: &[u8], n: usize, space: &mut [u8]) {
+fn try_room(rt: &impl Print, input: &[u8], n: usize, space: &mut [u8]) -> io::Result<()> {
     if n <= space.len() {
-        try_pad(input, &mut space[0..n]);
+        try_pad(rt, input, &mut space[0..n])?;
     }
+    Ok(())
 }
 
-fn try_input(path: &[u8], room: usize) {
-    let mut space = io::large_buffer();
-    let n = read_file(path, &mut space);
-    text(b"input ");
-    text(path);
-    text(b", bytes ");
-    size(n);
-    text(b", output ");
-    size(room);
-    text(b"\n");
+fn try_input(rt: &(impl Files + Print + Eprint), path: &[u8], room: usize) -> io::Result<()> {
+    let mut space = [0u8; 65536];
+    let n = read_file(rt, path, &mut space)?;
+    text(rt, b"input ")?;
+    text(rt, path)?;
+    text(rt, b", bytes ")?;
+    size(rt, n)?;
+    text(rt, b", output ")?;
+    size(rt, room)?;
+    text(rt, b"\n")?;
     let mut out = [BYTE; ROOM];
-    try_room(&space[..n], room, &mut out);
+    try_room(rt, &space[..n], room, &mut out)
 }
 
-pub(crate) fn try_inputs() {
-    text(b"\n");
-    try_input(b"padding_trimmed_lf.bfile", ROOM);
-    try_input(b"padding_trimmed_cr_lf.bfile", ROOM);
-    try_input(b"padding_trimmed_mixed.bfile", ROOM);
-    try_input(b"accepted_all_kinds.bfile", ROOM);
-    try_input(b"padding_line_of_81_bytes.bfile", ROOM);
-    try_input(b"padding_80_bytes_and_cr_lf.bfile", ROOM);
-    try_input(b"padding_80_bytes_and_cr.bfile", ROOM);
-    try_input(b"padding_cr_cr_lf.bfile", ROOM);
-    try_input(b"padding_lf_alone.bfile", ROOM);
-    try_input(b"fault_08_empty.bfile", ROOM);
-    try_input(b"padding_trimmed_month_13.bfile", ROOM);
-    try_input(b"padding_trimmed_cr_lf.bfile", ENOUGH - 1);
-    try_input(b"padding_trimmed_cr_lf.bfile", ENOUGH);
+pub(crate) fn try_inputs(rt: &(impl Files + Print + Eprint)) -> io::Result<()> {
+    text(rt, b"\n")?;
+    try_input(rt, b"padding_trimmed_lf.bfile", ROOM)?;
+    try_input(rt, b"padding_trimmed_cr_lf.bfile", ROOM)?;
+    try_input(rt, b"padding_trimmed_mixed.bfile", ROOM)?;
+    try_input(rt, b"accepted_all_kinds.bfile", ROOM)?;
+    try_input(rt, b"padding_line_of_81_bytes.bfile", ROOM)?;
+    try_input(rt, b"padding_80_bytes_and_cr_lf.bfile", ROOM)?;
+    try_input(rt, b"padding_80_bytes_and_cr.bfile", ROOM)?;
+    try_input(rt, b"padding_cr_cr_lf.bfile", ROOM)?;
+    try_input(rt, b"padding_lf_alone.bfile", ROOM)?;
+    try_input(rt, b"fault_08_empty.bfile", ROOM)?;
+    try_input(rt, b"padding_trimmed_month_13.bfile", ROOM)?;
+    try_input(rt, b"padding_trimmed_cr_lf.bfile", ENOUGH - 1)?;
+    try_input(rt, b"padding_trimmed_cr_lf.bfile", ENOUGH)
 }
 
-fn pad_file(path: &[u8], out: &mut [u8; 65536]) {
-    let mut space = io::large_buffer();
-    let n = read_file(path, &mut space);
+fn pad_file(rt: &(impl Files + Eprint), path: &[u8], out: &mut [u8; 65536]) -> io::Result<()> {
+    let mut space = [0u8; 65536];
+    let n = read_file(rt, path, &mut space)?;
     padding::pad(&space[..n], out);
+    Ok(())
 }
 
-pub(crate) fn show_differing(one: &[u8; 65536], other: &[u8; 65536]) {
-    text(b": bytes that differ ");
-    size(bytes_differing(one, other));
-    text(b"\n");
+pub(crate) fn show_differing(
+    rt: &impl Print,
+    one: &[u8; 65536],
+    other: &[u8; 65536],
+) -> io::Result<()> {
+    text(rt, b": bytes that differ ")?;
+    size(rt, bytes_differing(one, other))?;
+    text(rt, b"\n")
 }
 
-fn compare_padded(input: &[u8], file: &[u8]) {
+fn compare_padded(rt: &(impl Files + Print + Eprint), input: &[u8], file: &[u8]) -> io::Result<()> {
     let mut first = [BYTE; 65536];
     let mut second = [BYTE; 65536];
-    pad_file(input, &mut first);
-    read_file(file, &mut second);
-    text(input);
-    text(b" padded and ");
-    text(file);
-    show_differing(&first, &second);
+    pad_file(rt, input, &mut first)?;
+    read_file(rt, file, &mut second)?;
+    text(rt, input)?;
+    text(rt, b" padded and ")?;
+    text(rt, file)?;
+    show_differing(rt, &first, &second)
 }
 
-fn rewrite_lines(lines: &[u8; 65536], out: &mut [u8; 65536]) {
+fn rewrite_lines(rt: &impl Print, lines: &[u8; 65536], out: &mut [u8; 65536]) -> io::Result<()> {
     let mut table = [WORD; 12000];
     let checked = rewriting::rewrite(middle(lines, 0, ENOUGH), &mut table, out);
-    show_checked(checked);
+    show_checked(rt, checked)
 }
 
-fn rewrite_padded(input: &[u8], out: &mut [u8; 65536]) {
+fn rewrite_padded(
+    rt: &(impl Files + Print + Eprint),
+    input: &[u8],
+    out: &mut [u8; 65536],
+) -> io::Result<()> {
     let mut lines = [BYTE; 65536];
-    pad_file(input, &mut lines);
-    text(input);
-    text(b" padded, rewrite ");
-    rewrite_lines(&lines, out);
+    pad_file(rt, input, &mut lines)?;
+    text(rt, input)?;
+    text(rt, b" padded, rewrite ")?;
+    rewrite_lines(rt, &lines, out)
 }
 
-fn compare_rewritten(input: &[u8], file: &[u8]) {
+fn compare_rewritten(
+    rt: &(impl Files + Print + Eprint),
+    input: &[u8],
+    file: &[u8],
+) -> io::Result<()> {
     let mut first = [BYTE; 65536];
     let mut second = [BYTE; 65536];
-    rewrite_padded(input, &mut first);
-    rewrite_file(file, &mut second);
-    text(b"and ");
-    text(file);
-    text(b" rewritten");
-    show_differing(&first, &second);
+    rewrite_padded(rt, input, &mut first)?;
+    rewrite_file(rt, file, &mut second)?;
+    text(rt, b"and ")?;
+    text(rt, file)?;
+    text(rt, b" rewritten")?;
+    show_differing(rt, &first, &second)
 }
 
-pub(crate) fn compare_inputs() {
-    compare_padded(b"padding_trimmed_lf.bfile", b"accepted_all_kinds.bfile");
-    compare_padded(b"padding_trimmed_cr_lf.bfile", b"accepted_all_kinds.bfile");
-    compare_padded(b"padding_trimmed_mixed.bfile", b"accepted_all_kinds.bfile");
-    compare_padded(b"accepted_all_kinds.bfile", b"accepted_all_kinds.bfile");
-    compare_rewritten(b"padding_trimmed_cr_lf.bfile", b"accepted_all_kinds.bfile");
+pub(crate) fn compare_inputs(rt: &(impl Files + Print + Eprint)) -> io::Result<()> {
+    compare_padded(rt, b"padding_trimmed_lf.bfile", b"accepted_all_kinds.bfile")?;
+    compare_padded(
+        rt,
+        b"padding_trimmed_cr_lf.bfile",
+        b"accepted_all_kinds.bfile",
+    )?;
+    compare_padded(
+        rt,
+        b"padding_trimmed_mixed.bfile",
+        b"accepted_all_kinds.bfile",
+    )?;
+    compare_padded(rt, b"accepted_all_kinds.bfile", b"accepted_all_kinds.bfile")?;
+    compare_rewritten(
+        rt,
+        b"padding_trimmed_cr_lf.bfile",
+        b"accepted_all_kinds.bfile",
+    )
 }

@@ -1,51 +1,50 @@
 // What is printed: a line for each thing, each number after the words that say what it is.
 use kinds::{Checked, Fault};
+use std::io;
 
-pub(crate) fn text(t: &[u8]) {
-    io::write_all(1, t);
+pub(crate) fn text(rt: &impl Print, t: &[u8]) -> io::Result<()> {
+    rt.write_all(t)
 }
 
-pub(crate) fn number(n: u64) {
-    io::print_decimal(1, n);
+pub(crate) fn number(rt: &impl Print, n: u64) -> io::Result<()> {
+    print!(rt; "{n}")
 }
 
-pub(crate) fn size(n: usize) {
-    number(n as u64);
+pub(crate) fn size(rt: &impl Print, n: usize) -> io::Result<()> {
+    number(rt, n as u64)
 }
 
-pub(crate) fn word(n: u32) {
-    number(n as u64);
+pub(crate) fn word(rt: &impl Print, n: u32) -> io::Result<()> {
+    number(rt, n as u64)
 }
 
-pub(crate) fn show_fault(f: Fault) {
-    text(b"fault ");
-    word(f.number);
-    text(b" record ");
-    size(f.record);
-    text(b" column ");
-    size(f.column);
-    text(b"\n");
+pub(crate) fn show_fault(rt: &impl Print, f: Fault) -> io::Result<()> {
+    text(rt, b"fault ")?;
+    word(rt, f.number)?;
+    text(rt, b" record ")?;
+    size(rt, f.record)?;
+    text(rt, b" column ")?;
+    size(rt, f.column)?;
+    text(rt, b"\n")
 }
 
-fn show_count(n: u32) {
-    text(b" ");
-    word(n);
+fn show_count(rt: &impl Print, n: u32) -> io::Result<()> {
+    text(rt, b" ")?;
+    word(rt, n)
 }
 
 // In the order AA 10 11 12 25 26 27 70 72 80 86 91 92 93.
-fn show_counts(counts: &[u32; 14]) {
-    text(b"counts");
-    let mut i: usize = 0;
-    while i < 14 {
-        show_count(counts[i]);
-        i += 1;
+fn show_counts(rt: &impl Print, counts: &[u32; 14]) -> io::Result<()> {
+    text(rt, b"counts")?;
+    for n in counts {
+        show_count(rt, *n)?;
     }
-    text(b"\n");
+    text(rt, b"\n")
 }
 
-pub(crate) fn show_checked(c: Checked) {
+pub(crate) fn show_checked(rt: &impl Print, c: Checked) -> io::Result<()> {
     let fault = c.fault;
     let counts = c.counts;
-    show_fault(fault);
-    show_counts(&counts);
+    show_fault(rt, fault)?;
+    show_counts(rt, &counts)
 }

@@ -4,7 +4,7 @@ use crate::lent::{BYTE, WORD, show_kept_bytes};
 use crate::print::{number, show_checked, show_fault, size, text};
 use crate::table::show_table;
 use kinds::Fault;
-use std::num::wrapping_add_u64;
+use std::io;
 
 fn wide(byte: u8) -> u64 {
     byte as u64
@@ -14,95 +14,102 @@ fn wide(byte: u8) -> u64 {
 fn sum_of_sums(part: &[u8]) -> u64 {
     let mut sum: u64 = 0;
     let mut sums: u64 = 0;
-    let mut i: usize = 0;
-    while i < part.len() {
-        sum = wrapping_add_u64(sum, wide(part[i]));
-        sums = wrapping_add_u64(sums, sum);
-        i += 1;
+    for byte in part {
+        sum = sum.wrapping_add(wide(*byte));
+        sums = sums.wrapping_add(sum);
     }
     sums
 }
 
 // A file of up to fifty records is printed whole; of a longer one the sum has to do.
-fn show_rewritten(part: &[u8]) {
-    text(b"rewritten bytes ");
-    size(part.len());
-    text(b", sum of sums ");
-    number(sum_of_sums(part));
-    text(b"\n");
+fn show_rewritten(rt: &impl Print, part: &[u8]) -> io::Result<()> {
+    text(rt, b"rewritten bytes ")?;
+    size(rt, part.len())?;
+    text(rt, b", sum of sums ")?;
+    number(rt, sum_of_sums(part))?;
+    text(rt, b"\n")?;
     if part.len() <= 4050 {
-        text(part);
+        text(rt, part)?;
     }
+    Ok(())
 }
 
 // On acceptance the output starts with the rewritten file and stays beyond it.
-fn show_written(n: usize, out: &[u8]) {
+fn show_written(rt: &impl Print, n: usize, out: &[u8]) -> io::Result<()> {
     if n <= out.len() {
-        show_rewritten(&out[0..n]);
-        text(b"bytes beyond: ");
-        show_kept_bytes(&out[n..]);
+        show_rewritten(rt, &out[0..n])?;
+        text(rt, b"bytes beyond: ")?;
+        show_kept_bytes(rt, &out[n..])?;
     }
+    Ok(())
 }
 
 // A refusal leaves all of the output as it was.
-fn show_output(fault: Fault, n: usize, out: &[u8]) {
+fn show_output(rt: &impl Print, fault: Fault, n: usize, out: &[u8]) -> io::Result<()> {
     if fault.number == 0 {
-        show_written(n, out);
+        show_written(rt, n, out)?;
     } else {
-        text(b"bytes of the output: ");
-        show_kept_bytes(out);
+        text(rt, b"bytes of the output: ")?;
+        show_kept_bytes(rt, out)?;
     }
+    Ok(())
 }
 
-fn try_form(file: &[u8]) {
-    text(b"form ");
+fn try_form(rt: &impl Print, file: &[u8]) -> io::Result<()> {
+    text(rt, b"form ")?;
     let checked = walk::form(file);
-    show_checked(checked);
+    show_checked(rt, checked)
 }
 
-fn try_references(file: &[u8], table: &mut [u32; 12001]) {
-    text(b"references ");
+fn try_references(rt: &impl Print, file: &[u8], table: &mut [u32; 12001]) -> io::Result<()> {
+    text(rt, b"references ")?;
     let fault = walk::references(file, table);
-    show_fault(fault);
-    show_table(table);
+    show_fault(rt, fault)?;
+    show_table(rt, table)
 }
 
-fn try_rewrite(file: &[u8], before: &[u32; 12001], out: &mut [u8]) {
+fn try_rewrite(
+    rt: &impl Print,
+    file: &[u8],
+    before: &[u32; 12001],
+    out: &mut [u8],
+) -> io::Result<()> {
     let mut table = [WORD; 12001];
-    text(b"rewrite ");
+    text(rt, b"rewrite ")?;
     let checked = rewriting::rewrite(file, &mut table, out);
-    show_checked(checked);
-    text(b"words other than after references: ");
-    size(words_differing(&table, before));
-    text(b"\n");
+    show_checked(rt, checked)?;
+    text(rt, b"words other than after references: ")?;
+    size(rt, words_differing(&table, before))?;
+    text(rt, b"\n")?;
     let fault = checked.fault;
-    show_output(fault, file.len(), out);
+    show_output(rt, fault, file.len(), out)
 }
 
 // The output has room for one record more than the file.
-fn try_part(file: &[u8], before: &[u32; 12001], out: &mut [u8]) {
+fn try_part(rt: &impl Print, file: &[u8], before: &[u32; 12001], out: &mut [u8]) -> io::Result<()> {
     if file.len() <= 262144 {
         let end = file.len() + 81;
         if end <= out.len() {
-            try_rewrite(file, before, &mut out[0..end]);
+            try_rewrite(rt, file, before, &mut out[0..end])?;
         }
     }
+    Ok(())
 }
 
-fn try_calls(file: &[u8]) {
+fn try_calls(rt: &impl Print, file: &[u8]) -> io::Result<()> {
     let mut table = [WORD; 12001];
-    try_form(file);
-    try_references(file, &mut table);
+    try_form(rt, file)?;
+    try_references(rt, file, &mut table)?;
     let mut out = [BYTE; 262225];
-    try_part(file, &table, &mut out);
+    try_part(rt, file, &table, &mut out)
 }
 
-pub(crate) fn try_whole(name: &[u8], file: &[u8]) {
-    text(b"file ");
-    text(name);
-    text(b", bytes ");
-    size(file.len());
-    text(b"\n");
-    try_calls(file);
-    text(b"\n");
+pub(crate) fn try_whole(rt: &impl Print, name: &[u8], file: &[u8]) -> io::Result<()> {
+    text(rt, b"file ")?;
+    text(rt, name)?;
+    text(rt, b", bytes ")?;
+    size(rt, file.len())?;
+    text(rt, b"\n")?;
+    try_calls(rt, file)?;
+    text(rt, b"\n")
 }

@@ -1,9 +1,8 @@
 // What an example asks for: one of the public calls.
-use crate::cells::Spot;
+use crate::cells::{Spot, same};
 use crate::records::{lay_field, lay_read, lay_written};
 use crate::text::{SPACE, lay};
 use crate::whole::{lay_formed, lay_listed, lay_referred, lay_rewritten};
-use check::same;
 
 #[derive(Clone, Copy)]
 pub(crate) enum Call {

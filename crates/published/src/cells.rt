@@ -1,7 +1,6 @@
 // A line of the list: seven cells parted by tabs.
-ghost use Rattle.std.specs.Prelude.{◌≤◌, length};
+ghost use Rattle.std.specs.Prelude.{◌≡◌, ◌↔◌, ◌≤◌, IsTrue, length};
 
-use bytes::scan::find;
 use columns::numbers::value_of;
 
 pub(crate) const NAME: usize = 0;
@@ -29,20 +28,39 @@ pub(crate) struct Spot {
     pub(crate) start: usize,
 }
 
+pub(crate) fn same(one: &[u8], other: &[u8]) -> bool
+    ensures { IsTrue result ↔ (one.now ≡ other.now) }
+{
+    one == other
+}
+
+// The first place of the byte from `at` on and before `end`; `end` where there is none.
+pub(crate) fn find(part: &[u8], at: usize, end: usize, byte: u8) -> usize
+    requires from { at ≤ end }
+    requires to { end ≤ length part.now }
+    ensures from { at ≤ result }
+    ensures to { result ≤ end }
+{
+    for i in at..end {
+        if part[i] == byte {
+            return i;
+        }
+    }
+    end
+}
+
 // Where cell k starts; the end of the line where it has fewer cells.
 fn start_of(line: &[u8], k: usize) -> usize
     ensures { result ≤ length line.now }
 {
     let n = line.len();
     let mut at: usize = 0;
-    let mut i: usize = 0;
-    while i < k {
+    for _ in 0..k {
         let end = find(line, at, n, TAB);
         if end == n {
             return n;
         }
         at = end + 1;
-        i += 1;
     }
     at
 }

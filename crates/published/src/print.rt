@@ -1,56 +1,60 @@
 // What is printed: a line for each example.
 use crate::cells::{CALL, GIVEN, NAME, SHOULD, cell};
+use std::io;
 
-fn text(t: &[u8]) {
-    io::write_all(1, t);
+fn text(rt: &impl Print, t: &[u8]) -> io::Result<()> {
+    rt.write_all(t)
 }
 
 // The columns given, where there are any.
-fn show_given(given: &[u8]) {
+fn show_given(rt: &impl Print, given: &[u8]) -> io::Result<()> {
     if 0 < given.len() {
-        text(b" `");
-        text(given);
-        text(b"`");
+        text(rt, b" `")?;
+        text(rt, given)?;
+        text(rt, b"`")?;
     }
+    Ok(())
 }
 
-fn show_name(line: &[u8]) {
-    text(cell(line, NAME));
-    text(b", ");
-    text(cell(line, CALL));
-    show_given(cell(line, GIVEN));
-    text(b" | ");
+fn show_name(rt: &impl Print, line: &[u8]) -> io::Result<()> {
+    text(rt, cell(line, NAME))?;
+    text(rt, b", ")?;
+    text(rt, cell(line, CALL))?;
+    show_given(rt, cell(line, GIVEN))?;
+    text(rt, b" | ")
 }
 
-fn show_verdict(is_same: bool) {
+fn show_verdict(rt: &impl Print, is_same: bool) -> io::Result<()> {
     if is_same {
-        text(b" | same\n");
+        text(rt, b" | same\n")
     } else {
-        text(b" | DIFFERS\n");
+        text(rt, b" | DIFFERS\n")
     }
 }
 
-pub(crate) fn show_example(line: &[u8], came: &[u8], is_same: bool) {
-    show_name(line);
-    text(came);
-    text(b" | ");
-    text(cell(line, SHOULD));
-    show_verdict(is_same);
+pub(crate) fn show_example(
+    rt: &impl Print,
+    line: &[u8],
+    came: &[u8],
+    is_same: bool,
+) -> io::Result<()> {
+    show_name(rt, line)?;
+    text(rt, came)?;
+    text(rt, b" | ")?;
+    text(rt, cell(line, SHOULD))?;
+    show_verdict(rt, is_same)
 }
 
 // Prints a heading as it stands; answers whether the line is one.
-pub(crate) fn show_heading(line: &[u8]) -> bool {
+pub(crate) fn show_heading(rt: &impl Print, line: &[u8]) -> io::Result<bool> {
     if line.len() == 0 || line[0] != b'#' {
-        return false;
+        return Ok(false);
     }
-    text(line);
-    text(b"\n");
-    true
+    text(rt, line)?;
+    text(rt, b"\n")?;
+    Ok(true)
 }
 
-pub(crate) fn show_tally(run: u64, differ: u64) {
-    io::print_decimal(1, run);
-    text(b" examples, ");
-    io::print_decimal(1, differ);
-    text(b" differ\n");
+pub(crate) fn show_tally(rt: &impl Print, run: u64, differ: u64) -> io::Result<()> {
+    println!(rt; "{run} examples, {differ} differ")
 }

@@ -1,4 +1,5 @@
 // Bytes laid one after another into a space: the columns of an example into its file, and what came out.
+use itoa::Buffer;
 
 // The files of the list have at most twenty records, and no answer is as long as a file.
 pub(crate) const SPACE: usize = 2048;
@@ -27,10 +28,8 @@ pub(crate) fn put(out: &mut [u8; SPACE], at: usize, byte: u8) -> usize {
 
 pub(crate) fn lay(out: &mut [u8; SPACE], at: usize, part: &[u8]) -> usize {
     let mut end = at;
-    let mut i: usize = 0;
-    while i < part.len() {
-        end = put(out, end, part[i]);
-        i += 1;
+    for byte in part {
+        end = put(out, end, *byte);
     }
     end
 }
@@ -57,9 +56,8 @@ pub(crate) fn lay_columns(
 }
 
 pub(crate) fn lay_number(out: &mut [u8; SPACE], at: usize, n: u64) -> usize {
-    let mut digits = [0u8; 20];
-    let k = io::decimal(n, &mut digits);
-    lay(out, at, &digits[..k])
+    let mut digits = Buffer::new();
+    lay(out, at, digits.format(n).as_bytes())
 }
 
 pub(crate) fn lay_whole(out: &mut [u8; SPACE], negative: bool, n: u64) -> usize {

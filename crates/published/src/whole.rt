@@ -12,10 +12,8 @@ fn lay_count(out: &mut [u8; SPACE], at: usize, n: u32) -> usize {
 // In the order AA 10 11 12 25 26 27 70 72 80 86 91 92 93.
 fn lay_counts(out: &mut [u8; SPACE], counts: &[u32; 14]) -> usize {
     let mut at = lay(out, 0, b"accepted, counts");
-    let mut i: usize = 0;
-    while i < 14 {
-        at = lay_count(out, at, counts[i]);
-        i += 1;
+    for n in counts {
+        at = lay_count(out, at, *n);
     }
     at
 }
@@ -68,10 +66,8 @@ fn lay_visible(out: &mut [u8; SPACE], at: usize, byte: u8) -> usize {
 
 fn lay_text(out: &mut [u8; SPACE], part: &[u8]) -> usize {
     let mut at: usize = 0;
-    let mut i: usize = 0;
-    while i < part.len() {
-        at = lay_visible(out, at, part[i]);
-        i += 1;
+    for byte in part {
+        at = lay_visible(out, at, *byte);
     }
     at
 }

@@ -4,9 +4,13 @@
 mod print;
 mod refusals;
 
+ghost use Rattle.std.specs.Io.{ReadsAtMost};
+
 use kinds::{Reading, Record, Sequence, Written};
 use print::{number, show_fault, show_record, show_sequence, text};
 use refusals::write_refused;
+use std::io;
+use std::io::Read;
 
 // Where the texts of more than four columns of a record start; 0 where there is none.
 #[derive(Clone, Copy)]
@@ -44,27 +48,26 @@ fn texts_of(what: Record) -> Texts {
 }
 
 // The first column and the width of a field; nothing where none begins.
-fn show_field(file: &[u8], r: usize, c: usize) {
+fn show_field(rt: &impl Print, file: &[u8], r: usize, c: usize) -> io::Result<()> {
     let part = reading::field(file, r, c);
     let w = part.len();
     if 0 < w {
-        number(c as u64);
-        text(b"+ ");
-        number(w as u64);
+        number(rt, c as u64)?;
+        text(rt, b"+ ")?;
+        number(rt, w as u64)?;
     }
+    Ok(())
 }
 
-fn show_fields(file: &[u8], r: usize) {
-    let mut c: usize = 0;
-    while c < 83 {
-        show_field(file, r, c);
-        c += 1;
+fn show_fields(rt: &impl Print, file: &[u8], r: usize) -> io::Result<()> {
+    for c in 0..83 {
+        show_field(rt, file, r, c)?;
     }
-    text(b"\n");
+    text(rt, b"\n")
 }
 
 // Written from the values and texts that were read, the record is in house style.
-fn write_back(file: &[u8], r: usize, s: Sequence, what: Record) {
+fn write_back(rt: &impl Print, file: &[u8], r: usize, s: Sequence, what: Record) -> io::Result<()> {
     let t = texts_of(what);
     let first = reading::field(file, r, t.first);
     let second = reading::field(file, r, t.second);
@@ -72,45 +75,58 @@ fn write_back(file: &[u8], r: usize, s: Sequence, what: Record) {
     let mut out = [b'.'; 82];
     let w = writing::write(&mut out, s, what, first, second, third);
     match w {
-        Written::Done => text(&out),
-        Written::Refused(f) => show_fault(f),
+        Written::Done => text(rt, &out)?,
+        Written::Refused(f) => show_fault(rt, f)?,
     }
-    text(b"\n");
+    text(rt, b"\n")
 }
 
-fn show(file: &[u8], r: usize) {
-    number(r as u64);
+fn show(rt: &impl Print, file: &[u8], r: usize) -> io::Result<()> {
+    number(rt, r as u64)?;
     let reading = reading::read(file, r);
     match reading {
         Reading::Refused(f) => {
-            show_fault(f);
-            show_fields(file, r);
+            show_fault(rt, f)?;
+            show_fields(rt, file, r)
         }
         Reading::Values(s, what) => {
-            show_sequence(s);
-            show_record(what);
-            text(b"\n");
-            show_fields(file, r);
-            write_back(file, r, s, what);
+            show_sequence(rt, s)?;
+            show_record(rt, what)?;
+            text(rt, b"\n")?;
+            show_fields(rt, file, r)?;
+            write_back(rt, file, r, s, what)
         }
     }
 }
 
 // No file has a record 0 or a record 100000.
-fn show_all(file: &[u8]) {
-    show(file, 0);
+fn show_all(rt: &impl Print, file: &[u8]) -> io::Result<()> {
+    show(rt, file, 0)?;
     let last = reading::lines::count_begun(file);
-    let mut r: usize = 0;
-    while r < last {
-        r += 1;
-        show(file, r);
+    for r in 1..=last {
+        show(rt, file, r)?;
     }
-    show(file, 100_000);
+    show(rt, file, 100_000)
 }
 
-fn main() {
-    let mut space = io::large_buffer();
-    let n = io::read_full(0, &mut space);
-    show_all(&space[..n]);
-    write_refused();
+// Goes on reading until the input ends or the space is full.
+fn read_full<R: Read>(reader: &mut R, space: &mut [u8]) -> io::Result<usize>
+    ensures { ReadsAtMost result space.new }
+{
+    let mut done: usize = 0;
+    while done < space.len() {
+        let n = reader.read(&mut space[done..])?;
+        if n == 0 {
+            break;
+        }
+        done += n;
+    }
+    Ok(done)
+}
+
+fn main(rt: HostRuntime) -> io::Result<()> {
+    let mut space = [0u8; 65536];
+    let n = read_full(&mut rt.reader(), &mut space)?;
+    show_all(&rt, &space[..n])?;
+    write_refused(&rt)
 }

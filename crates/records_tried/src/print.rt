@@ -5,197 +5,197 @@ use kinds::{
     Antenna, Fault, Heights, Local, Measurement, Network, Occupation, Point, Project, Record,
     Sequence, Three, Two,
 };
+use std::io;
 
-pub(crate) fn text(t: &[u8]) {
-    io::write_all(1, t);
+pub(crate) fn text(rt: &impl Print, t: &[u8]) -> io::Result<()> {
+    rt.write_all(t)
 }
 
-pub(crate) fn number(n: u64) {
-    io::print_decimal(1, n);
-    text(b" ");
+pub(crate) fn number(rt: &impl Print, n: u64) -> io::Result<()> {
+    print!(rt; "{n} ")
 }
 
-fn count(n: u32) {
-    number(n as u64);
+fn count(rt: &impl Print, n: u32) -> io::Result<()> {
+    number(rt, n as u64)
 }
 
-fn byte(b: u8) {
-    number(b as u64);
+fn byte(rt: &impl Print, b: u8) -> io::Result<()> {
+    number(rt, b as u64)
 }
 
-fn signed(z: i32) {
+fn signed(rt: &impl Print, z: i32) -> io::Result<()> {
     match split_sign(z) {
-        Split::Plus(n) => count(n),
+        Split::Plus(n) => count(rt, n),
         Split::Minus(n) => {
-            text(b"-");
-            count(n);
+            text(rt, b"-")?;
+            count(rt, n)
         }
     }
 }
 
-fn signed_long(z: i64) {
+fn signed_long(rt: &impl Print, z: i64) -> io::Result<()> {
     match split_long(z) {
-        SplitLong::Plus(n) => number(n),
+        SplitLong::Plus(n) => number(rt, n),
         SplitLong::Minus(n) => {
-            text(b"-");
-            number(n);
+            text(rt, b"-")?;
+            number(rt, n)
         }
     }
 }
 
-fn height(h: Height) {
+fn height(rt: &impl Print, h: Height) -> io::Result<()> {
     match h {
-        Height::Missing => text(b"missing "),
-        Height::Mm(z) => signed(z),
+        Height::Missing => text(rt, b"missing "),
+        Height::Mm(z) => signed(rt, z),
     }
 }
 
-fn two(t: Two) {
-    byte(t.0);
-    byte(t.1);
+fn two(rt: &impl Print, t: Two) -> io::Result<()> {
+    byte(rt, t.0)?;
+    byte(rt, t.1)
 }
 
-fn three(t: Three) {
-    byte(t.0);
-    byte(t.1);
-    byte(t.2);
+fn three(rt: &impl Print, t: Three) -> io::Result<()> {
+    byte(rt, t.0)?;
+    byte(rt, t.1)?;
+    byte(rt, t.2)
 }
 
-fn four(t: Four) {
-    byte(t.0);
-    byte(t.1);
-    byte(t.2);
-    byte(t.3);
+fn four(rt: &impl Print, t: Four) -> io::Result<()> {
+    byte(rt, t.0)?;
+    byte(rt, t.1)?;
+    byte(rt, t.2)?;
+    byte(rt, t.3)
 }
 
-fn media(m: Media) {
-    byte(m.maker);
-    count(m.day);
-    byte(m.year);
-    byte(m.session);
+fn media(rt: &impl Print, m: Media) -> io::Result<()> {
+    byte(rt, m.maker)?;
+    count(rt, m.day)?;
+    byte(rt, m.year)?;
+    byte(rt, m.session)?;
     let mark = m.mark;
-    four(mark);
+    four(rt, mark)
 }
 
-pub(crate) fn show_fault(f: Fault) {
-    text(b"refused ");
-    count(f.number);
-    number(f.record as u64);
-    number(f.column as u64);
-    text(b"\n");
+pub(crate) fn show_fault(rt: &impl Print, f: Fault) -> io::Result<()> {
+    text(rt, b"refused ")?;
+    count(rt, f.number)?;
+    number(rt, f.record as u64)?;
+    number(rt, f.column as u64)?;
+    text(rt, b"\n")
 }
 
-pub(crate) fn show_sequence(s: Sequence) {
+pub(crate) fn show_sequence(rt: &impl Print, s: Sequence) -> io::Result<()> {
     match s {
-        Sequence::Missing => text(b"missing "),
-        Sequence::Number(n) => count(n),
+        Sequence::Missing => text(rt, b"missing "),
+        Sequence::Number(n) => count(rt, n),
     }
 }
 
-fn show_project(r: Project) {
+fn show_project(rt: &impl Print, r: Project) -> io::Result<()> {
     let initials = r.initials;
     let second = r.second;
     let state = r.state;
-    count(r.began);
-    count(r.ended);
-    three(initials);
-    three(second);
-    two(state);
+    count(rt, r.began)?;
+    count(rt, r.ended)?;
+    three(rt, initials)?;
+    three(rt, second)?;
+    two(rt, state)
 }
 
-fn show_occupation(r: Occupation) {
+fn show_occupation(rt: &impl Print, r: Occupation) -> io::Result<()> {
     let label = r.media;
     let initials = r.initials;
-    count(r.station);
-    media(label);
-    three(initials);
-    count(r.instrument);
-    count(r.antenna);
+    count(rt, r.station)?;
+    media(rt, label)?;
+    three(rt, initials)?;
+    count(rt, r.instrument)?;
+    count(rt, r.antenna)
 }
 
-fn show_measurement(r: Measurement) {
-    count(r.station);
-    count(r.date);
-    count(r.time);
-    signed(r.height);
+fn show_measurement(rt: &impl Print, r: Measurement) -> io::Result<()> {
+    count(rt, r.station)?;
+    count(rt, r.date)?;
+    count(rt, r.time)?;
+    signed(rt, r.height)
 }
 
-fn show_antenna(r: Antenna) {
+fn show_antenna(rt: &impl Print, r: Antenna) -> io::Result<()> {
     let radome = r.radome;
-    count(r.antenna);
-    four(radome);
+    count(rt, r.antenna)?;
+    four(rt, radome)
 }
 
-fn show_point(r: Point) {
+fn show_point(rt: &impl Print, r: Point) -> io::Result<()> {
     let state = r.state;
-    count(r.station);
-    signed_long(r.latitude);
-    signed_long(r.longitude);
-    two(state);
+    count(rt, r.station)?;
+    signed_long(rt, r.latitude)?;
+    signed_long(rt, r.longitude)?;
+    two(rt, state)
 }
 
-fn show_heights(r: Heights) {
+fn show_heights(rt: &impl Print, r: Heights) -> io::Result<()> {
     let class = r.class;
     let datum = r.datum;
     let orthometric = r.orthometric;
     let geoid = r.geoid;
     let ellipsoid = r.ellipsoid;
-    count(r.station);
-    height(orthometric);
-    byte(r.code);
-    two(class);
-    byte(r.indicator);
-    two(datum);
-    height(geoid);
-    byte(r.geoidcode);
-    height(ellipsoid);
-    byte(r.ellipsoidcode);
-    byte(r.ellipsoiddatum);
+    count(rt, r.station)?;
+    height(rt, orthometric)?;
+    byte(rt, r.code)?;
+    two(rt, class)?;
+    byte(rt, r.indicator)?;
+    two(rt, datum)?;
+    height(rt, geoid)?;
+    byte(rt, r.geoidcode)?;
+    height(rt, ellipsoid)?;
+    byte(rt, r.ellipsoidcode)?;
+    byte(rt, r.ellipsoiddatum)
 }
 
-fn show_network(r: Network) {
-    count(r.station);
-    number(r.north);
-    number(r.east);
-    signed_long(r.correlation);
-    number(r.ellipsoid);
-    byte(r.scaled);
+fn show_network(rt: &impl Print, r: Network) -> io::Result<()> {
+    count(rt, r.station)?;
+    number(rt, r.north)?;
+    number(rt, r.east)?;
+    signed_long(rt, r.correlation)?;
+    number(rt, r.ellipsoid)?;
+    byte(rt, r.scaled)
 }
 
-fn show_local(r: Local) {
-    count(r.standpoint);
-    count(r.forepoint);
-    number(r.north);
-    number(r.east);
-    signed_long(r.correlation);
-    number(r.ellipsoid);
-    byte(r.scaled);
+fn show_local(rt: &impl Print, r: Local) -> io::Result<()> {
+    count(rt, r.standpoint)?;
+    count(rt, r.forepoint)?;
+    number(rt, r.north)?;
+    number(rt, r.east)?;
+    signed_long(rt, r.correlation)?;
+    number(rt, r.ellipsoid)?;
+    byte(rt, r.scaled)
 }
 
-pub(crate) fn show_record(what: Record) {
+pub(crate) fn show_record(rt: &impl Print, what: Record) -> io::Result<()> {
     match what {
         Record::Job(r) => {
-            byte(r.first);
-            byte(r.second);
+            byte(rt, r.first)?;
+            byte(rt, r.second)
         }
-        Record::Title(r) => text(b"title "),
-        Record::Continuation(r) => text(b"continuation "),
-        Record::Project(r) => show_project(r),
-        Record::Occupation(r) => show_occupation(r),
-        Record::Comment(r) => text(b"comment "),
-        Record::Measurement(r) => show_measurement(r),
+        Record::Title(r) => text(rt, b"title "),
+        Record::Continuation(r) => text(rt, b"continuation "),
+        Record::Project(r) => show_project(rt, r),
+        Record::Occupation(r) => show_occupation(rt, r),
+        Record::Comment(r) => text(rt, b"comment "),
+        Record::Measurement(r) => show_measurement(rt, r),
         Record::Instrument(r) => {
-            count(r.instrument);
-            count(r.equipment);
+            count(rt, r.instrument)?;
+            count(rt, r.equipment)
         }
-        Record::Antenna(r) => show_antenna(r),
-        Record::Point(r) => show_point(r),
-        Record::Heights(r) => show_heights(r),
-        Record::Network(r) => show_network(r),
-        Record::Local(r) => show_local(r),
+        Record::Antenna(r) => show_antenna(rt, r),
+        Record::Point(r) => show_point(rt, r),
+        Record::Heights(r) => show_heights(rt, r),
+        Record::Network(r) => show_network(rt, r),
+        Record::Local(r) => show_local(rt, r),
         Record::Factor(r) => {
-            count(r.horizontal);
-            count(r.vertical);
+            count(rt, r.horizontal)?;
+            count(rt, r.vertical)
         }
     }
 }
