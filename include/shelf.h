@@ -1,4 +1,4 @@
-/* The deposit shelf's library: target/staticlib/libexport.a.
+/* The deposit shelf's library: crates/export/out/libexport.a.
  *
  * Every call may be given every file, number and value, and every length of
  * what is lent; nothing is kept after it returns. A pointer is not null and

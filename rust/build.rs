@@ -1,4 +1,5 @@
-//! Links the proved library's archive, which `rt staticlib export` writes.
+//! Links the proved library's archive, which `rt lib` writes in
+//! crates/export.
 //! One that is older than the sources it was built from is refused.
 
 #[path = "src/sha256.rs"]
@@ -18,7 +19,7 @@ fn main() {
         return;
     }
     let project = Path::new(env!("CARGO_MANIFEST_DIR")).join("..");
-    let folder = project.join("target/staticlib");
+    let folder = project.join("crates/export/out");
     let archive = folder.join("libexport.a");
     println!("cargo:rerun-if-changed={}", archive.display());
     let Ok(bytes) = fs::read(&archive) else {
@@ -36,7 +37,7 @@ fn main() {
 }
 
 fn refuse(what: &str) -> ! {
-    eprintln!("target/staticlib/libexport.a {what}: run `rt staticlib export` first");
+    eprintln!("crates/export/out/libexport.a {what}: run `rt lib` in crates/export first");
     exit(1)
 }
 
@@ -46,7 +47,11 @@ fn newest(project: &Path) -> io::Result<(SystemTime, String)> {
     let listed = project.join("crates.txt");
     println!("cargo:rerun-if-changed={}", listed.display());
     let text = fs::read_to_string(&listed)?;
-    let needs = text.lines().find_map(|line| line.strip_prefix("export:"));
+    // A line is 'NAME: NEED ..', with more words after the name where it has any.
+    let needs = text.lines().find_map(|line| {
+        let (said, needs) = line.split_once(':')?;
+        (said.split_whitespace().next() == Some("export")).then_some(needs)
+    });
     let crates = needs.unwrap_or("").split_whitespace().chain(["export"]);
     let mut newest = (modified(&listed)?, "crates.txt".to_string());
     for name in crates {

@@ -10,14 +10,15 @@ use std::thread;
 
 const ROOT: &str = concat!(env!("CARGO_MANIFEST_DIR"), "/..");
 
-/// Builds a program that counts bytes, notes that it was called, and fails if
-/// another of its kind is at work.
+/// Called in the program's folder: builds a program that counts bytes, notes
+/// that it was called, and fails if another of its kind is at work.
 const RT: &str = "#!/bin/sh\n\
+    cd ../..\n\
     mkdir busy || { echo broken >> calls; exit 1; }\n\
     echo \"$@\" >> calls\n\
-    mkdir -p target/bin\n\
-    printf '#!/bin/sh\\nwc -c\\n' > target/bin/sheet\n\
-    chmod +x target/bin/sheet\n\
+    mkdir -p crates/sheet/out\n\
+    printf '#!/bin/sh\\nwc -c\\n' > crates/sheet/out/sheet\n\
+    chmod +x crates/sheet/out/sheet\n\
     rmdir busy\n";
 
 /// Runs the program that it is told to emulate, the last of its words: on
@@ -107,7 +108,7 @@ fn the_program_is_built_once_and_anew_after_an_edit() {
     let edited = fs::File::options()
         .append(true)
         .open(desk.path("tree/crates/one/src/lib.rt"));
-    let built = fs::metadata(desk.path("tree/target/shelf-sheet.built")).unwrap();
+    let built = fs::metadata(desk.path("tree/crates/sheet/out/shelf-sheet.built")).unwrap();
     let later = built.modified().unwrap() + std::time::Duration::from_secs(2);
     edited.unwrap().set_modified(later).unwrap();
     sheet(&desk, &["five"]).ended(0);
@@ -173,7 +174,7 @@ fn without_rt_the_built_program_still_runs() {
 #[test]
 fn an_archive_older_than_its_sources_is_not_linked() {
     let desk = Desk::new("archive");
-    desk.put("crates.txt", b"one:\nother:\nexport: one\n");
+    desk.put("crates.txt", b"one:\nother:\nexport staticlib: one\n");
     let sources = ["one", "other", "export"].map(|name| format!("crates/{name}/src/lib.rt"));
     for name in ["Cargo.toml", "Cargo.lock", "build.rs", "src/sha256.rs"] {
         let file = fs::read(format!("{ROOT}/rust/{name}")).unwrap();
@@ -196,10 +197,10 @@ fn an_archive_older_than_its_sources_is_not_linked() {
     }
     said(
         build().ended(101),
-        "target/staticlib/libexport.a is not there: run",
+        "crates/export/out/libexport.a is not there: run",
     );
-    desk.put("target/staticlib/libexport.a", b"!<arch>\n");
-    let built = fs::metadata(desk.path("target/staticlib/libexport.a")).unwrap();
+    desk.put("crates/export/out/libexport.a", b"!<arch>\n");
+    let built = fs::metadata(desk.path("crates/export/out/libexport.a")).unwrap();
     let at = |name: &str, seconds: u64| {
         let file = fs::File::options()
             .append(true)
@@ -211,9 +212,9 @@ fn an_archive_older_than_its_sources_is_not_linked() {
     for name in [&sources[0], &sources[2]] {
         at(name, 10);
         said(build().ended(101), &format!("is older than {name}"));
-        at("target/staticlib/libexport.a", 20);
+        at("crates/export/out/libexport.a", 20);
         build().ended(0);
-        at("target/staticlib/libexport.a", 0);
+        at("crates/export/out/libexport.a", 0);
         at(name, 0);
     }
     // Of a crate that it does not name nothing was built into it.

@@ -164,7 +164,7 @@ fn the_version_says_which_library_it_is() {
     } else {
         let archive = concat!(
             env!("CARGO_MANIFEST_DIR"),
-            "/../target/staticlib/libexport.a"
+            "/../crates/export/out/libexport.a"
         );
         let said = desk.shell(&format!("sha256sum < '{archive}'")).ended(0).out;
         let digest = said.split(' ').next().unwrap();

@@ -1,0 +1,15 @@
+-- The invariant: the first i counts are laid.
+use lib.ListN.{length-set}
+use mathlib.Core.Path.{◌≡◌}
+use native.Mathlib.Omega.{arith}
+use borrow.Author.Rules.{rules}
+use Prim.Native.Nat.{◌-◌, ◌≤◌}
+use lib.ListN.{length, take}
+use Rattle.export.proofs.AnswerLaws.{copy_more, copy_done}
+use Rattle.export.proofs.counts.put_counts.Given as goal
+
+abbrev pub invariant-loop-i : goal.invariant-loop-i
+invariant-loop-i l = (length l.out ≡ length l.initial.out) × (take l.i l.out ≡ take l.i l.counts) × (l.i ≤ 14)
+
+abbrev pub decreases-loop-i : goal.decreases-loop-i
+decreases-loop-i l = 14 - l.i
