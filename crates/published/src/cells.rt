@@ -1,5 +1,5 @@
 // A line of the list: seven cells parted by tabs.
-ghost use Rattle.std.specs.Prelude.{◌≡◌, ◌↔◌, ◌≤◌, IsTrue, length};
+ghost use Rattle.std.specs.Prelude.{◌≡◌, ◌≢◌, ◌↔◌, ℕ, ◌<◌, ◌≤◌, IsTrue, length, slice_index};
 
 use columns::numbers::value_of;
 
@@ -40,6 +40,8 @@ pub(crate) fn find(part: &[u8], at: usize, end: usize, byte: u8) -> usize
     requires to { end ≤ length part.now }
     ensures from { at ≤ result }
     ensures to { result ≤ end }
+    ensures before { (k : ℕ) → at ≤ k → k < result → slice_index part.now k ≢ byte }
+    ensures found { result < end → slice_index part.now result ≡ byte }
 {
     for i in at..end {
         if part[i] == byte {
