@@ -12,7 +12,7 @@ use Rattle.rules.specs.Items.{Value, Way, width, gap, num, text, Item, blank, co
 use Rattle.rules.specs.Fields.{Field, Expect, anything, Verdict, ok, fault, check, ◌⨾◌, is_ok, Entry, given, entries_of, agrees, judge_each, judge, covers}
 use Rattle.rules.specs.Records.{Meaning, sequence, told, of_kind, judge_given}
 use Rattle.rules.specs.Kinds.{kind_of, known}
-use Rattle.rules.specs.Layouts.{at, kept, layouts, layout}
+use Rattle.rules.specs.Layouts.{kept, layouts, layout}
 use Rattle.rules.specs.Calls.{write_verdict, write_output}
 use Rattle.rules.specs.Chapter4.{chapter4}
 use Rattle.rules.proofs.Truth.{both, to≤, to≡, no≤, of>, of≤, cases, not_true, all_get_d, and_false}

@@ -1,11 +1,7 @@
 -- The invariant: the first i counts are laid.
-use lib.ListN.{length-set}
 use mathlib.Core.Path.{◌≡◌}
-use native.Mathlib.Omega.{arith}
-use borrow.Author.Rules.{rules}
 use Prim.Native.Nat.{◌-◌, ◌≤◌}
 use lib.ListN.{length, take}
-use Rattle.export.proofs.AnswerLaws.{copy_more, copy_done}
 use Rattle.export.proofs.counts.put_counts.Given as goal
 
 abbrev pub invariant-loop-i : goal.invariant-loop-i

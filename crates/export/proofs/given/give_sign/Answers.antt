@@ -3,7 +3,6 @@ use mir.Syntax.{w32}
 use mir.ValLaws.{to_z_pos}
 use Rattle.columns.proofs.Signed.{minus-fits, minus_back}
 use Rattle.rules.specs.Items.{signed}
-use borrow.Author.Rules.{rules}
 use Rattle.export.proofs.given.give_sign.Goals as goal
 
 pub overflow_sub-result : goal.overflow_sub-result

@@ -1,6 +1,5 @@
 use mathlib.Core.Path.{sym, ap}
 use Rattle.kinds.specs.Values.{kind_number}
-use borrow.Author.Rules.{rules}
 use Rattle.export.proofs.readings.number_kind.Goals as goal
 
 pub returns-in-Job : goal.returns-in-Job

@@ -7,9 +7,4 @@ use Rattle.export.proofs.readings.put_measurement.Goals as goal
 
 pub returns : goal.returns
 returns c =
-    let h = c in
-    let n3 = h in
-    let n2 = n3 in
-    let n1 = n2 in
-    let s = n1 in
-    measurement-laid _ _ _ s.args.r _ _ _ n1.put_number.ensures n2.put_number-2.ensures n3.put_number-3.ensures h.put_height.ensures (to_z-of_z w32 s.args.r.height record { sfits = s.struct_told-1.given.1.1.1.0.1 })
+    measurement-laid _ _ _ c.args.r _ _ _ c.put_number.ensures c.put_number-2.ensures c.put_number-3.ensures c.put_height.ensures (to_z-of_z w32 c.args.r.height record { sfits = search rules })

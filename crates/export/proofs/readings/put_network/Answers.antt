@@ -9,13 +9,6 @@ use Rattle.export.proofs.readings.put_network.Goals as goal
 
 pub returns : goal.returns
 returns c =
-    let s = c in
-    let e = s in
-    let z = e in
-    let d = z in
-    let b = d in
-    let n = b in
-    let g = n in
-    let r = g.args.r in
-    let back : to_z w64 (of_z w64 r.correlation) ≡ r.correlation = to_z-of_z w64 r.correlation record { sfits = g.struct_told-1.given.1.1.1.0.1 } in
-    network-laid _ _ _ r _ _ _ _ n.put_number.ensures b.put_deviation.ensures d.put_deviation-2.ensures (rw back at z.put_signed.ensures) e.put_deviation-3.ensures s.put_character.ensures
+    let r = c.args.r in
+    let back : to_z w64 (of_z w64 r.correlation) ≡ r.correlation = to_z-of_z w64 r.correlation record { sfits = search rules } in
+    network-laid _ _ _ r _ _ _ _ c.put_number.ensures c.put_deviation.ensures c.put_deviation-2.ensures (rw back at c.put_signed.ensures) c.put_deviation-3.ensures c.put_character.ensures

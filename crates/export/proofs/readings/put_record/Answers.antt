@@ -4,15 +4,11 @@ use Rattle.export.proofs.readings.put_record.Goals as goal
 
 pub put_network-requires : goal.put_network-requires
 put_network-requires c =
-    let w = c in
-    let s = w in
-    network_held s.args.what s.requires _ w.in-Network.is
+    network_held c.args.what c.requires _ c.in-Network.is
 
 pub put_local-requires : goal.put_local-requires
 put_local-requires c =
-    let w = c in
-    let s = w in
-    local_held s.args.what s.requires _ w.in-Local.is
+    local_held c.args.what c.requires _ c.in-Local.is
 
 pub returns-in-Job : goal.returns-in-Job
 returns-in-Job c = search (record-job, rules)

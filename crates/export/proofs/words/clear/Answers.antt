@@ -1,10 +1,5 @@
 -- The invariant: zeros before i, and from i on what was lent.
 use borrow.Author.Rules.{rules}
-use mathlib.Core.Path.{◌≡◌}
-use mathlib.Core.List.{◌++◌}
-use Prim.Native.Nat.{◌-◌, ◌≤◌}
-use lib.ListN.{length, replicate, drop}
-use lib.IntN.{pos}
 use Rattle.export.proofs.WordLaws.{clear_more, clear_done}
 use Rattle.export.proofs.words.clear.Goals as goal
 
