@@ -1,13 +1,15 @@
 // A file of the data, read whole.
+ghost use Rattle.std.specs.Prelude.{◌≡◌, length};
 ghost use Rattle.std.specs.Io.{ReadsAtMost};
 
 use std::io::Read;
 use std::rt::Files;
 use std::{fs, io};
 
-// Goes on reading until the input ends or the space is full.
+// Goes on reading until the input ends or the space is full. The only error is a read's; it leaves the space as long as it was, and in it what was read before.
 fn read_full<R: Read>(reader: &mut R, space: &mut [u8]) -> io::Result<usize>
-    ensures { ReadsAtMost result space.new }
+    ensures reads { ReadsAtMost result space.new }
+    ensures kept { length space.new ≡ length space.old }
 {
     let mut done: usize = 0;
     while done < space.len() {
@@ -20,13 +22,14 @@ fn read_full<R: Read>(reader: &mut R, space: &mut [u8]) -> io::Result<usize>
     Ok(done)
 }
 
-// Puts the bytes of the file at the start of the space and answers how many: none where it cannot be opened.
+// Puts the bytes of the file at the start of the space and answers how many: none where it cannot be opened. The only errors are a read's and that of a line to standard error; they leave the space as long as it was.
 pub(crate) fn read_file(
     rt: &(impl Files + Eprint),
     path: &[u8],
     space: &mut [u8],
 ) -> io::Result<usize>
-    ensures { ReadsAtMost result space.new }
+    ensures reads { ReadsAtMost result space.new }
+    ensures kept { length space.new ≡ length space.old }
 {
     let name = match str::from_utf8(path) {
         Ok(name) => name,

@@ -11,7 +11,7 @@ fn show_word(rt: &impl Print, i: usize, held: u32) -> io::Result<()> {
     word(rt, held)
 }
 
-// A word that is not 0 counts 1. It is printed after its place, if fewer than twelve were before it.
+// A word that is not 0 counts 1. It is printed after its place, if fewer than twelve were before it. The only error is a write's.
 fn show_filled(rt: &impl Print, i: usize, held: u32, before: usize) -> io::Result<usize>
     ensures { IfOk result (λ n. n ≤ 1) }
 {

@@ -4,6 +4,7 @@
 mod print;
 mod refusals;
 
+ghost use Rattle.std.specs.Prelude.{◌≡◌, length};
 ghost use Rattle.std.specs.Io.{ReadsAtMost};
 
 use kinds::{Reading, Record, Sequence, Written};
@@ -109,9 +110,10 @@ fn show_all(rt: &impl Print, file: &[u8]) -> io::Result<()> {
     show(rt, file, 100_000)
 }
 
-// Goes on reading until the input ends or the space is full.
+// Goes on reading until the input ends or the space is full. The only error is a read's; it leaves the space as long as it was, and in it what was read before.
 fn read_full<R: Read>(reader: &mut R, space: &mut [u8]) -> io::Result<usize>
-    ensures { ReadsAtMost result space.new }
+    ensures reads { ReadsAtMost result space.new }
+    ensures kept { length space.new ≡ length space.old }
 {
     let mut done: usize = 0;
     while done < space.len() {
