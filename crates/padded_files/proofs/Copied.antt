@@ -18,7 +18,7 @@ use Rattle.rules.proofs.PaddingLaws.{padded_long, padded_line_lem, not_printed, 
 use Rattle.kinds.specs.declared.Checked.{Checked}
 use Rattle.walk.specs.Promise as walk
 use Rattle.padding.proofs.PadDemands.{passed}
-use Rattle.padded_files.specs.AfterPad.{Padding, padded-part}
+use Rattle.padded_files.specs.AfterPad.{Padding, padded_part}
 use Rattle.padded_files.proofs.OverPadded.{forms}
 
 -- a line of the padded file begins with its source line
@@ -41,7 +41,7 @@ module _ (f : List ℕ) (good : judge_texts 1 (texts f) ≡ accept) (i : ℕ) (h
 
 -- form accepts nothing that pad left where a line of the input has a CR
 pub copied_refused : {f : List ℕ} (x : Padding f) (i : ℕ) → i < length (texts f) → 13 ∈ get_or (texts f) i []
-    → (v : Checked) → walk.FormPromised (padded-part x) v → v.fault.number ≡ 0 → ⊥
+    → (v : Checked) → walk.FormPromised (padded_part x) v → v.fault.number ≡ 0 → ⊥
 copied_refused {f} x i h cr v p zero =
-    let good = passed f x.output x.answer x.output_left_lem x.promised x.good in
+    let good = passed f x.output x.answer x.output_left x.promised x.good in
     not_printed 13 (all_members is_printable (get_or (texts f) i []) (formed_printed f good i h ((forms x v p).judging.forming.0 zero)) 13 cr) (omega arith)

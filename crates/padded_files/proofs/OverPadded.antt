@@ -10,55 +10,55 @@ use Rattle.walk.proofs.CallDemands as walked
 use Rattle.rewriting.specs.Promise as rewrite
 use Rattle.rewriting.proofs.RewriteDemands as rewritten
 use Rattle.padding.proofs.PadDemands.{demand_2_pad}
-use Rattle.padded_files.specs.AfterPad.{Padding, padded-part, FormsPadded, RefersPadded, JudgesPadded, RewritesPadded, said_of, SameAnswers}
+use Rattle.padded_files.specs.AfterPad.{Padding, padded_part, FormsPadded, RefersPadded, JudgesPadded, RewritesPadded, said_of, SameAnswers}
 
 module _ {f : List ℕ} (x : Padding f) where
   -- what pad left in the output's first 81 x lines bytes is the padded file
-  pub padded-part_is : padded-part x ≡ padded f
-  unfolding padded-part
-  padded-part_is = (demand_2_pad f x.output x.answer x.output_left_lem x.promised).written x.good
+  pub padded_part_is : padded_part x ≡ padded f
+  unfolding padded_part
+  padded_part_is = (demand_2_pad f x.output x.answer x.output_left x.promised).written x.good
 
   -- what is promised of it is promised of the padded file
-  pub form_padded : (v : Checked) → walk.FormPromised (padded-part x) v → walk.FormPromised (padded f) v
-  form_padded v = subst (λ a. walk.FormPromised a v) padded-part_is
+  pub form_padded : (v : Checked) → walk.FormPromised (padded_part x) v → walk.FormPromised (padded f) v
+  form_padded v = subst (λ a. walk.FormPromised a v) padded_part_is
 
-  pub references_padded : (t : List ℕ) (w : Fault) (u : List ℕ) → walk.ReferencesPromised (padded-part x) t w u → walk.ReferencesPromised (padded f) t w u
-  references_padded t w u = subst (λ a. walk.ReferencesPromised a t w u) padded-part_is
+  pub references_padded : (t : List ℕ) (w : Fault) (u : List ℕ) → walk.ReferencesPromised (padded_part x) t w u → walk.ReferencesPromised (padded f) t w u
+  references_padded t w u = subst (λ a. walk.ReferencesPromised a t w u) padded_part_is
 
-  pub rewrite_padded : (t o : List ℕ) (v : Checked) (u p : List ℕ) → rewrite.Promised (padded-part x) t o v u p → rewrite.Promised (padded f) t o v u p
-  rewrite_padded t o v u p = subst (λ a. rewrite.Promised a t o v u p) padded-part_is
+  pub rewrite_padded : (t o : List ℕ) (v : Checked) (u p : List ℕ) → rewrite.Promised (padded_part x) t o v u p → rewrite.Promised (padded f) t o v u p
+  rewrite_padded t o v u p = subst (λ a. rewrite.Promised a t o v u p) padded_part_is
 
   -- demands 1 and 2 of each call
-  pub forms : (v : Checked) → walk.FormPromised (padded-part x) v → FormsPadded f v
+  pub forms : (v : Checked) → walk.FormPromised (padded_part x) v → FormsPadded f v
   forms v p =
       let over = form_padded v p in
       record { refusing = walked.demand_1_form (padded f) v over; judging = walked.demand_2_form (padded f) v over }
 
-  pub refers : (t : List ℕ) (w : Fault) (u : List ℕ) → walk.ReferencesPromised (padded-part x) t w u → RefersPadded f t w u
+  pub refers : (t : List ℕ) (w : Fault) (u : List ℕ) → walk.ReferencesPromised (padded_part x) t w u → RefersPadded f t w u
   refers t w u p =
       let over = references_padded t w u p in
       record { refusing = walked.demand_1_references (padded f) t w u over; judging = walked.demand_2_references (padded f) t w u over }
 
   -- and of both together
-  pub judges : (t : List ℕ) (v : Checked) (w : Fault) (u : List ℕ) → walk.FormPromised (padded-part x) v → walk.ReferencesPromised (padded-part x) t w u
+  pub judges : (t : List ℕ) (v : Checked) (w : Fault) (u : List ℕ) → walk.FormPromised (padded_part x) v → walk.ReferencesPromised (padded_part x) t w u
       → JudgesPadded f t (walk.together v w) u
   judges t v w u p q =
       let over = form_padded v p in
       let referred = references_padded t w u q in
       record { refusing = walked.demand_1_calls (padded f) t v w u over referred; judging = walked.demand_2_calls (padded f) t v w u over referred }
 
-  pub rewrites : (t o : List ℕ) (v : Checked) (u p : List ℕ) → rewrite.Promised (padded-part x) t o v u p → RewritesPadded f t o v u p
+  pub rewrites : (t o : List ℕ) (v : Checked) (u p : List ℕ) → rewrite.Promised (padded_part x) t o v u p → RewritesPadded f t o v u p
   rewrites t o v u p q =
       let over = rewrite_padded t o v u p q in
       record { refusing = rewritten.demand_1_rewrite (padded f) t o v u p over; judging = rewritten.demand_2_rewrite (padded f) t o v u p over }
 
   -- a rewriting of what pad left is a rewriting of the padded file
-  unfoldable pub run_over_padded : rewrite.Run (padded-part x) → rewrite.Run (padded f)
-  run_over_padded r = said_of padded-part_is r
+  unfoldable pub run_over_padded : rewrite.Run (padded_part x) → rewrite.Run (padded f)
+  run_over_padded r = said_of padded_part_is r
 
 module _ {f g : List ℕ} (x : Padding f) (y : Padding g) where
   -- demand 3 of two rewritings after pad
-  pub demand_3_padded : (r : rewrite.Run (padded-part x)) (s : rewrite.Run (padded-part y))
+  pub demand_3_padded : (r : rewrite.Run (padded_part x)) (s : rewrite.Run (padded_part y))
       → rewrite.Rewrites (padded f) (padded g) (run_over_padded x r) (run_over_padded y s)
   demand_3_padded r s = rewritten.demand_3_rewrite (padded f) (padded g) (run_over_padded x r) (run_over_padded y s)
 

@@ -7,21 +7,21 @@ use Rattle.rules.specs.Files.{accept}
 use Rattle.rules.specs.Padding.{texts, padded, judge_texts, OnlyTrimmed}
 use Rattle.rules.proofs.PaddingLaws.{trimmed_same}
 use Rattle.padding.proofs.PadDemands.{passed}
-use Rattle.padded_files.specs.AfterPad.{Padding, padded-part, SameAnswers}
-use Rattle.padded_files.proofs.OverPadded.{padded-part_is, same_answers}
+use Rattle.padded_files.specs.AfterPad.{Padding, padded_part, SameAnswers}
+use Rattle.padded_files.proofs.OverPadded.{padded_part_is, same_answers}
 
 lines_pass : {f : List ℕ} (x : Padding f) → judge_texts 1 (texts f) ≡ accept
-lines_pass {f} x = passed f x.output x.answer x.output_left_lem x.promised x.good
+lines_pass {f} x = passed f x.output x.answer x.output_left x.promised x.good
 
 module _ {f g : List ℕ} (x : Padding f) (y : Padding g) where
   same_padded : (padded f ≡ padded g) ↔ OnlyTrimmed f g
   same_padded = trimmed_same f g (lines_pass x) (lines_pass y)
 
   -- pad leaves the same bytes exactly when the inputs differ only in trimming and line ends
-  pub same_bytes_lem : (padded-part x ≡ padded-part y) ↔ OnlyTrimmed f g
+  pub same_bytes_lem : (padded_part x ≡ padded_part y) ↔ OnlyTrimmed f g
   same_bytes_lem = (
-    (λ e. same_padded.0 (sym (padded-part_is x) ∙ e ∙ padded-part_is y)),
-    (λ o. padded-part_is x ∙ same_padded.1 o ∙ sym (padded-part_is y)),
+    (λ e. same_padded.0 (sym (padded_part_is x) ∙ e ∙ padded_part_is y)),
+    (λ o. padded_part_is x ∙ same_padded.1 o ∙ sym (padded_part_is y)),
   )
 
   -- and then form, references and rewrite answer the same

@@ -14,13 +14,13 @@ use Rattle.padding.specs.Promise as pad
 pub record Padding (f : List ℕ) : Type 0 where
   pub output : List ℕ
   pub answer : Padded
-  pub output_left_lem : List ℕ
-  pub promised : pad.Promised f output answer output_left_lem
+  pub output_left : List ℕ
+  pub promised : pad.Promised f output answer output_left
   pub good : answer.fault.number ≡ 0
 
 -- the first 81 x lines bytes of the output that it left
-unfoldable pub padded-part : {f : List ℕ} → Padding f → List ℕ
-padded-part x = take (81 * x.answer.lines) x.output_left_lem
+unfoldable pub padded_part : {f : List ℕ} → Padding f → List ℕ
+padded_part x = take (81 * x.answer.lines) x.output_left
 
 -- demands 1 and 2 of form after pad, read over the padded file
 pub record FormsPadded (f : List ℕ) (v : Checked) : Type 0 where
@@ -48,18 +48,18 @@ said_of e r = record {
   table = r.table;
   output = r.output;
   answer = r.answer;
-  table_left_lem = r.table_left_lem;
-  output_left_lem = r.output_left_lem;
-  promised = subst (λ f. rewrite.Promised f r.table r.output r.answer r.table_left_lem r.output_left_lem) e r.promised;
+  table_left = r.table_left;
+  output_left = r.output_left;
+  promised = subst (λ f. rewrite.Promised f r.table r.output r.answer r.table_left r.output_left) e r.promised;
   accepted = r.accepted;
 }
 
 -- after two runs of pad form, references and rewrite, lent the same, answer the same and leave the same
 pub record SameAnswers {f g : List ℕ} (x : Padding f) (y : Padding g) : Type 0 where
-  pub forms : (v w : Checked) → walk.FormPromised (padded-part x) v → walk.FormPromised (padded-part y) w → v ≡ w
-  pub refers : (t : List ℕ) (v w : Fault) (u s : List ℕ) → walk.ReferencesPromised (padded-part x) t v u → walk.ReferencesPromised (padded-part y) t w s
+  pub forms : (v w : Checked) → walk.FormPromised (padded_part x) v → walk.FormPromised (padded_part y) w → v ≡ w
+  pub refers : (t : List ℕ) (v w : Fault) (u s : List ℕ) → walk.ReferencesPromised (padded_part x) t v u → walk.ReferencesPromised (padded_part y) t w s
       → (v ≡ w) × (u ≡ s)
-  pub rewrites : (t o : List ℕ) (v w : Checked) (u s p q : List ℕ) → rewrite.Promised (padded-part x) t o v u p → rewrite.Promised (padded-part y) t o w s q
+  pub rewrites : (t o : List ℕ) (v w : Checked) (u s p q : List ℕ) → rewrite.Promised (padded_part x) t o v u p → rewrite.Promised (padded_part y) t o w s q
       → (v ≡ w) × (u ≡ s) × (p ≡ q)
 
 -- pad took f and changed nothing of it: as many lines as records, and form, references and rewrite answer as without padding

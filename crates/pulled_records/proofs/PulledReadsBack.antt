@@ -60,11 +60,11 @@ module _ (f rs : List ℕ) (x : Pull f rs) (i : ℕ) (h : i < length rs) (s : Se
   its : Given f r s w
   its = given f r s w was_read
 
-  its_line : line_at x.output_left_lem i ≡ style chapter4 r its.meant
-  its_line = (((demand_2_pull f rs x.output x.places x.answer x.output_left_lem x.places_left x.promised x.good).entry i h).good its.number its.meant its.read).0
+  its_line : line_at x.output_left i ≡ style chapter4 r its.meant
+  its_line = (((demand_2_pull f rs x.output x.places x.answer x.output_left x.places_left x.promised x.good).entry i h).good its.number its.meant its.read).0
 
   -- wherever its line stands as record n of a file
-  module _ (g : List ℕ) (n : ℕ) (there : within 1 99_999 n & n ≤? begun g ≡ true) (e : line_at g (n - 1) ≡ line_at x.output_left_lem i) where
+  module _ (g : List ℕ) (n : ℕ) (there : within 1 99_999 n & n ≤? begun g ≡ true) (e : line_at g (n - 1) ≡ line_at x.output_left i) where
     back : read_of g n ≡ values (num (pos (10 * r))) its.meant
     back = style_back f r its.meant (taken f r its.number its.meant its.read) g n there (e ∙ its_line)
 
@@ -92,10 +92,10 @@ module _ (f rs : List ℕ) (x : Pull f rs) (i : ℕ) (h : i < length rs) (s : Se
 
   -- its 81 bytes as the one record of a file
   abbrev own : List ℕ
-  own = line_at x.output_left_lem i
+  own = line_at x.output_left i
 
   own_long : length own ≡ 81
-  own_long = ap length (line_is f rs x.output x.places x.answer x.output_left_lem x.places_left x.promised x.good i h) ∙ line_81 f r
+  own_long = ap length (line_is f rs x.output x.places x.answer x.output_left x.places_left x.promised x.good i h) ∙ line_81 f r
 
   pub pulled_alone : ReadsBack f r w own 1
   pulled_alone = pulled_reads_back own 1 is_there is_line_lem
@@ -111,7 +111,7 @@ module _ (f rs : List ℕ) (x : Pull f rs) (i : ℕ) (h : i < length rs) (s : Se
   pulled_in_place k = pulled_reads_back (pulled_part x) (i + 1) is_there is_line_lem
     where
       part_is : pulled_part x ≡ pulled_lines f rs
-      part_is = unfold pulled_part in lines_are f rs x.output x.places x.answer x.output_left_lem x.places_left x.promised x.good
+      part_is = unfold pulled_part in lines_are f rs x.output x.places x.answer x.output_left x.places_left x.promised x.good
 
       long : length (pulled_part x) ≡ 81 * length rs
       long = ap length part_is ∙ pulled_long f rs
@@ -119,7 +119,7 @@ module _ (f rs : List ℕ) (x : Pull f rs) (i : ℕ) (h : i < length rs) (s : Se
       is_there : within 1 99_999 (i + 1) & i + 1 ≤? begun (pulled_part x) ≡ true
       is_there = and (of_within (omega arith) (omega arith)) (of≤ (unfold begun in omega (arith, long, h)))
 
-      is_line_lem : line_at (pulled_part x) (i + 1 - 1) ≡ line_at x.output_left_lem i
+      is_line_lem : line_at (pulled_part x) (i + 1 - 1) ≡ line_at x.output_left i
       is_line_lem =
           ap (line_at (pulled_part x)) (omega arith) ∙ ap (λ (p : List ℕ). line_at p i) part_is ∙ pulled_at f rs i h
-          ∙ sym (line_is f rs x.output x.places x.answer x.output_left_lem x.places_left x.promised x.good i h)
+          ∙ sym (line_is f rs x.output x.places x.answer x.output_left x.places_left x.promised x.good i h)

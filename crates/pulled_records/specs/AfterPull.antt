@@ -13,17 +13,17 @@ pub record Pull (f rs : List ℕ) : Type 0 where
   pub output : List ℕ
   pub places : List ℕ
   pub answer : Pulled
-  pub output_left_lem : List ℕ
+  pub output_left : List ℕ
   pub places_left : List ℕ
-  pub promised : pull.Promised f rs output places answer output_left_lem places_left
+  pub promised : pull.Promised f rs output places answer output_left places_left
   pub good : answer.fault.number ≡ 0
 
 -- the first 81 bytes an entry of the output that it left, and as many places of the fault list as entries
 unfoldable pub pulled_part : {f rs : List ℕ} → Pull f rs → List ℕ
-pulled_part {f} {rs} x = take (81 * length rs) x.output_left_lem
+pulled_part {f} {rs} x = take (81 * length rs) x.output_left
 
-unfoldable pub pulled_faults_lem : {f rs : List ℕ} → Pull f rs → List ℕ
-pulled_faults_lem {f} {rs} x = take (length rs) x.places_left
+unfoldable pub faults_part : {f rs : List ℕ} → Pull f rs → List ℕ
+faults_part {f} {rs} x = take (length rs) x.places_left
 
 -- record n of a file g reads back as record r of f, whose values are w: 10 times r, the same values, the same texts at their columns
 pub record ReadsBack (f : List ℕ) (r : ℕ) (w : Record) (g : List ℕ) (n : ℕ) : Type 1 where

@@ -122,10 +122,10 @@ module _ (a : List ℕ) (x : Run a) where
 
   pub its_style : styled x ≡ rewritten chapter4 a
   unfolding styled
-  its_style = writes_first a x.table x.output x.answer x.table_left_lem x.output_left_lem wide.0 wide.1 its_file x.promised
+  its_style = writes_first a x.table x.output x.answer x.table_left x.output_left wide.0 wide.1 its_file x.promised
 
-  its_rest : drop (length a) x.output_left_lem ≡ drop (length a) x.output
-  its_rest = writes_beyond a x.table x.output x.answer x.table_left_lem x.output_left_lem wide.0 wide.1 its_file x.promised
+  its_rest : drop (length a) x.output_left ≡ drop (length a) x.output
+  its_rest = writes_beyond a x.table x.output x.answer x.table_left x.output_left wide.0 wide.1 its_file x.promised
 
   -- the answer and the words go by the meaning alone
   verdict-accept : verdict chapter4 a ≡ accept
@@ -134,10 +134,10 @@ module _ (a : List ℕ) (x : Run a) where
   its_answer : x.answer ≡ checked_of (answer accept (meanings chapter4 a))
   its_answer = x.promised.answered ∙ (unfold rewrite_answer outcome in rw (roomy.0, verdict-accept))
 
-  its_words : take 12_000 x.table_left_lem ≡ words (meanings chapter4 a)
+  its_words : take 12_000 x.table_left ≡ words (meanings chapter4 a)
   its_words = ap (take 12_000) left ∙ take_at (words (meanings chapter4 a)) (drop 12_000 x.table) 12_000 (length-words (meanings chapter4 a))
     where
-      left : x.table_left_lem ≡ words (meanings chapter4 a) ++ drop 12_000 x.table
+      left : x.table_left ≡ words (meanings chapter4 a) ++ drop 12_000 x.table
       left = x.promised.left ∙ (unfold rewrite_table table_left is_accept in rw (roomy.0, verdict-accept))
 
 -- the form of an accepted file

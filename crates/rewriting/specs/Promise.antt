@@ -36,14 +36,14 @@ pub record Run (f : List ℕ) : Type 0 where
   pub table : List ℕ
   pub output : List ℕ
   pub answer : Checked
-  pub table_left_lem : List ℕ
-  pub output_left_lem : List ℕ
-  pub promised : Promised f table output answer table_left_lem output_left_lem
+  pub table_left : List ℕ
+  pub output_left : List ℕ
+  pub promised : Promised f table output answer table_left output_left
   pub accepted : answer.fault.number ≡ 0
 
 -- the rewritten file: as many bytes as the file had
 unfoldable pub styled : {f : List ℕ} → Run f → List ℕ
-styled {f} run = take (length f) run.output_left_lem
+styled {f} run = take (length f) run.output_left
 
 -- demand 3 of a run over a and one over b
 pub record Rewrites (a b : List ℕ) (x : Run a) (y : Run b) : Type 0 where
@@ -56,10 +56,10 @@ pub record Rewrites (a b : List ℕ) (x : Run a) (y : Run b) : Type 0 where
   pub kinds : map (λ l. kind_of (code_at l)) (lines (styled x)) ≡ map (λ l. kind_of (code_at l)) (lines a)
   pub numbered : (i : ℕ) → i < length (lines a) → value_of sequence (take 6 (get_or (lines (styled x)) i [])) ≡ num (pos (10 * (1 + i)))
   -- bytes of the output behind it stay
-  pub beyond : drop (length a) x.output_left_lem ≡ drop (length a) x.output
+  pub beyond : drop (length a) x.output_left ≡ drop (length a) x.output
   -- form and, with a full-size table, references accept it, with the counts and the words of its source
   pub accepted_again : (t : List ℕ) (v : Checked) (w : Fault) (u : List ℕ) → 12_000 ≤ length t → walk.FormPromised (styled x) v → walk.ReferencesPromised (styled x) t w u
-      → (v ≡ x.answer) × (w.number ≡ 0) × (take 12_000 u ≡ take 12_000 x.table_left_lem)
+      → (v ≡ x.answer) × (w.number ≡ 0) × (take 12_000 u ≡ take 12_000 x.table_left)
   -- every rewriting of it with room and a full-size table leaves the same bytes
   pub settled : (t o : List ℕ) (v : Checked) (u p : List ℕ) → 12_000 ≤ length t → length a ≤ length o → Promised (styled x) t o v u p
       → take (length a) p ≡ styled x

@@ -152,7 +152,7 @@ media_forth (a ∷ b ∷ c ∷ d ∷ e ∷ g ∷ t) h =
       from_001 = day.0;
       to_366 = day.1;
       a_digit = to≤ (both (both (both fit).0).0).1;
-      letter-or-digit = in-set (letter or digit) g (both (both fit).0).1;
+      letter_or_digit = in-set (letter or digit) g (both (both fit).0).1;
       four = to≡ (both (both fit).1).0;
       printed = printed_in t (both (both fit).1).1;
       value = refl;
@@ -177,7 +177,7 @@ media_back bs v f =
   where
     fit : fits media (label f.maker f.day f.year f.session f.mark) ≡ true
     fit = unfold fits on_label is_media member in
-        and (and (and (and (unfold member in of_set letter f.maker f.a_letter) (of_within f.from_001 f.to_366)) (of≤ f.a_digit)) (of_set (letter or digit) f.session f.letter-or-digit))
+        and (and (and (and (unfold member in of_set letter f.maker f.a_letter) (of_within f.from_001 f.to_366)) (of≤ f.a_digit)) (of_set (letter or digit) f.session f.letter_or_digit))
         (and (of≡ f.four) (printed_of f.mark f.printed))
 
     one : put 3 f.day ++ put 1 f.year ++ f.session ∷ f.mark ≡ put 3 f.day ++ (48 + f.year) ∷ [] ++ f.session ∷ f.mark

@@ -108,7 +108,7 @@ pub record MediaField (bs : List ℕ) (v : Value) : Type 0 where
   pub from_001 : 1 ≤ day
   pub to_366 : day ≤ 366
   pub a_digit : year ≤ 9
-  pub letter-or-digit : session ∈ characters_of (letter or digit)
+  pub letter_or_digit : session ∈ characters_of (letter or digit)
   pub four : length mark ≡ 4
   pub printed : mark ⊆ characters_of printable
   pub value : v ≡ label maker day year session mark

@@ -17,8 +17,7 @@ returns-then-out-v c = search (narrow, rules)
 pub lay_lines-requires : goal.lay_lines-requires
 unfolding mask_bytes
 lay_lines-requires c =
-    let judged = c in
-    let halves = judged.count_halves-halves.ensures in
+    let halves = c.count_halves-halves.ensures in
     (refl, search (good-lines, rules), search (count, rules), search (before, rules), halves.behind, omega arith)
 
 pub returns : goal.returns

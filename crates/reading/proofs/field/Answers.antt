@@ -15,11 +15,10 @@ fits c = let s = c.args in room s.file.now s.«record» s.column c.width_asked-w
 
 pub returns-then-w-eq0 : goal.returns-then-w-eq0
 returns-then-w-eq0 c =
-    let a = c in
-    let s = a.args in
-    let e = empty_offset s.file.now s.«record» s.column a.width_asked-w.result a.width_asked-w.ensures c.if-w-eq0.true in
+    let s = c.args in
+    let e = empty_offset s.file.now s.«record» s.column c.width_asked-w.result c.width_asked-w.ensures c.if-w-eq0.true in
     record {
-      contents = empty_contents s.file.now s.«record» s.column a.width_asked-w.result a.width_asked-w.ensures c.if-w-eq0.true;
+      contents = empty_contents s.file.now s.«record» s.column c.width_asked-w.result c.width_asked-w.ensures c.if-w-eq0.true;
       same_block = refl;
       offset = add_comm 0 s.file.ref_ptr.1 ∙ ap (λ n. s.file.ref_ptr.1 + n) e;
     }
@@ -44,12 +43,11 @@ slice_bounds-result-end-2 c = let k = fits c in search rules
 
 pub returns : goal.returns
 returns c =
-    let a = c in
-    let s = a.args in
+    let s = c.args in
     let o = 81 * (s.«record» - 1) + (s.column - 1) in
-    let w = a.width_asked-w.result in
+    let w = c.width_asked-w.result in
     record {
-      contents = some_contents s.file.now s.«record» s.column w a.width_asked-w.ensures c.if-w-eq0.false (o + w - o) (add-sub_cancel_left o w);
+      contents = some_contents s.file.now s.«record» s.column w c.width_asked-w.ensures c.if-w-eq0.false (o + w - o) (add-sub_cancel_left o w);
       same_block = refl;
-      offset = add_comm o s.file.ref_ptr.1 ∙ ap (λ n. s.file.ref_ptr.1 + n) (some_offset s.file.now s.«record» s.column w a.width_asked-w.ensures c.if-w-eq0.false);
+      offset = add_comm o s.file.ref_ptr.1 ∙ ap (λ n. s.file.ref_ptr.1 + n) (some_offset s.file.now s.«record» s.column w c.width_asked-w.ensures c.if-w-eq0.false);
     }

@@ -7,10 +7,8 @@ use Rattle.columns.proofs.alphabets.all_listed.Goals as goal
 
 pub loop-i-preserved : goal.loop-i-preserved
 loop-i-preserved c =
-    let s = c in
-    (refl, omega arith, all_turn (any_of s.args.list.now) s.args.part.now s.loop-i.i s.loop-i.good _ c.is_listed-good.ensures c.loop-i-test.true ∙ s.loop-i.invariant.2)
+    (refl, omega arith, all_turn (any_of c.args.list.now) c.args.part.now c.loop-i.i c.loop-i.good _ c.is_listed-good.ensures c.loop-i-test.true ∙ c.loop-i.invariant.2)
 
 pub returns : goal.returns
 returns c =
-    let s = c in
-    sym (all_end (any_of s.args.list.now) s.args.part.now s.loop-i.i s.loop-i.good c.loop-i-test.false) ∙ s.loop-i.invariant.2
+    sym (all_end (any_of c.args.list.now) c.args.part.now c.loop-i.i c.loop-i.good c.loop-i-test.false) ∙ c.loop-i.invariant.2

@@ -6,10 +6,8 @@ use Rattle.columns.proofs.alphabets.is_listed.Goals as goal
 
 pub loop-i-preserved : goal.loop-i-preserved
 loop-i-preserved c =
-    let s = c in
-    (refl, omega arith, any_turn s.args.list.now s.loop-i.i s.args.b s.loop-i.found c.loop-i-test.true ∙ s.loop-i.invariant.2)
+    (refl, omega arith, any_turn c.args.list.now c.loop-i.i c.args.b c.loop-i.found c.loop-i-test.true ∙ c.loop-i.invariant.2)
 
 pub returns : goal.returns
 returns c =
-    let s = c in
-    sym (any_end s.args.list.now s.loop-i.i s.args.b s.loop-i.found c.loop-i-test.false) ∙ s.loop-i.invariant.2
+    sym (any_end c.args.list.now c.loop-i.i c.args.b c.loop-i.found c.loop-i-test.false) ∙ c.loop-i.invariant.2

@@ -13,8 +13,5 @@ pub returns : goal.returns
 unfolding ◌&◌
 returns c =
     let a = c.args in
-    let b = c in
-    let s = b in
-    let m = s in
     sym (rw (of≤ c.if-part-gt16.false)
-    (sym (height-good a.lo a.hi a.may a.part.now c.has_form.ensures m.last_of-blank.ensures (b.is_between-held.ensures ∙ rw (m.has_minus.ensures, s.sum.ensures.is)))))
+    (sym (height-good a.lo a.hi a.may a.part.now c.has_form.ensures c.last_of-blank.ensures (c.is_between-held.ensures ∙ rw (c.has_minus.ensures, c.sum.ensures.is)))))

@@ -6,10 +6,8 @@ use Rattle.columns.proofs.heights.has_minus.Goals as goal
 
 pub loop-i-preserved : goal.loop-i-preserved
 loop-i-preserved c =
-    let s = c in
-    (refl, omega arith, minus_turn s.args.part.now s.loop-i.i s.loop-i.found s.loop-i.blank c.loop-i-test.true ∙ s.loop-i.invariant.2)
+    (refl, omega arith, minus_turn c.args.part.now c.loop-i.i c.loop-i.found c.loop-i.blank c.loop-i-test.true ∙ c.loop-i.invariant.2)
 
 pub returns : goal.returns
 returns c =
-    let s = c in
-    sym (minus_end s.args.part.now s.loop-i.i s.loop-i.found s.loop-i.blank c.loop-i-test.false) ∙ s.loop-i.invariant.2
+    sym (minus_end c.args.part.now c.loop-i.i c.loop-i.found c.loop-i.blank c.loop-i-test.false) ∙ c.loop-i.invariant.2

@@ -8,19 +8,13 @@ use Rattle.columns.proofs.WriteLaws.{kept_unfit}
 use Rattle.columns.proofs.LabelLaws.{media-put, year_small}
 use Rattle.columns.proofs.labels.put_media.Goals as goal
 
-fitted : (c : goal.After-struct_known-1) → fits media (media_value c.args.m) ≡ true
-fitted c = sym c.media_fits.ensures ∙ c.if-not-media_fits.false
-
-fitted' : (c : goal.After-slice_known-2-1) → fits media (media_value c.args.m) ≡ true
-fitted' c = sym c.media_fits.ensures ∙ c.if-not-media_fits.false
-
 pub returns-then-not-media_fits : goal.returns-then-not-media_fits
 returns-then-not-media_fits c = let a = c.args in kept_unfit media (media_value a.m) a.out.now (sym c.media_fits.ensures ∙ c.if-not-media_fits.true)
 
 pub overflow_add-text : goal.overflow_add-text
-overflow_add-text c = omega (arith, year_small c.args.m (fitted c))
+overflow_add-text c = omega (arith, year_small c.args.m (sym c.media_fits.ensures ∙ c.if-not-media_fits.false))
 
 pub returns : goal.returns
 returns c =
     let a = c.args in
-    media-put a.m a.out.now _ c.last_digit-a.ensures c.last_digit-b.ensures c.last_digit-c.ensures (fitted' c) c.put_text.ensures
+    media-put a.m a.out.now _ c.last_digit-a.ensures c.last_digit-b.ensures c.last_digit-c.ensures (sym c.media_fits.ensures ∙ c.if-not-media_fits.false) c.put_text.ensures

@@ -6,12 +6,10 @@ use Rattle.columns.proofs.numbers.has_form.Goals as goal
 
 pub loop-i-preserved : goal.loop-i-preserved
 loop-i-preserved c =
-    let s = c in
-    let a = s.args in
-    (refl, omega arith, formed_turn a.part.now s.loop-i.i a.mark s.loop-i.last s.loop-i.good c.loop-i-test.true ∙ s.loop-i.invariant.2)
+    let a = c.args in
+    (refl, omega arith, formed_turn a.part.now c.loop-i.i a.mark c.loop-i.last c.loop-i.good c.loop-i-test.true ∙ c.loop-i.invariant.2)
 
 pub returns : goal.returns
 returns c =
-    let s = c in
-    let a = s.args in
-    sym (formed_end a.part.now s.loop-i.i a.mark s.loop-i.last s.loop-i.good c.loop-i-test.false) ∙ s.loop-i.invariant.2
+    let a = c.args in
+    sym (formed_end a.part.now c.loop-i.i a.mark c.loop-i.last c.loop-i.good c.loop-i-test.false) ∙ c.loop-i.invariant.2

@@ -10,22 +10,19 @@ overflow_mul-v c = omega (arith, pow_most c.loop-i.i 15 (omega arith))
 
 pub overflow_add-v : goal.overflow_add-v
 overflow_add-v c =
-    let s = c in
-    omega (arith, pow_most s.loop-i.i 15 (omega arith), c.shared_slice_known-in-loop-i-1.given s.loop-i.i, c.digit.ensures)
+    omega (arith, pow_most c.loop-i.i 15 (omega arith), c.shared_slice_known-in-loop-i-1.given c.loop-i.i, c.digit.ensures)
 
 pub loop-i-preserved : goal.loop-i-preserved
-loop-i-preserved c =
-    let s = c in (
-      refl,
-      omega arith,
-      omega arith,
-      omega (arith, pow_next s.loop-i.i, c.shared_slice_known-in-loop-i-1.given s.loop-i.i, c.digit.ensures),
-      val_turn s.args.part.now s.loop-i.i s.loop-i.v _ c.digit.ensures c.loop-i-test.true ∙ s.loop-i.invariant.4,
-    )
+loop-i-preserved c = (
+  refl,
+  omega arith,
+  omega arith,
+  omega (arith, pow_next c.loop-i.i, c.shared_slice_known-in-loop-i-1.given c.loop-i.i, c.digit.ensures),
+  val_turn c.args.part.now c.loop-i.i c.loop-i.v _ c.digit.ensures c.loop-i-test.true ∙ c.loop-i.invariant.4,
+)
 
 pub returns : goal.returns
 returns c =
-    let s = c in
-    let f = s.args.part.now in
-    let e : s.loop-i.i ≡ length f = omega arith in
-    record { is = sym (val_end f s.loop-i.i s.loop-i.v c.loop-i-test.false) ∙ s.loop-i.invariant.4; small = rw (← e) s.loop-i.invariant.3 }
+    let f = c.args.part.now in
+    let e : c.loop-i.i ≡ length f = omega arith in
+    record { is = sym (val_end f c.loop-i.i c.loop-i.v c.loop-i-test.false) ∙ c.loop-i.invariant.4; small = rw (← e) c.loop-i.invariant.3 }

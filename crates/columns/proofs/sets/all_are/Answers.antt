@@ -8,10 +8,8 @@ use Rattle.columns.proofs.sets.all_are.Goals as goal
 pub loop-i-preserved : goal.loop-i-preserved
 unfolding ◌=?◌
 loop-i-preserved c =
-    let s = c in
-    (refl, omega arith, all_turn (λ b. b =? s.args.c) s.args.part.now s.loop-i.i s.loop-i.good _ refl c.loop-i-test.true ∙ s.loop-i.invariant.2)
+    (refl, omega arith, all_turn (λ b. b =? c.args.c) c.args.part.now c.loop-i.i c.loop-i.good _ refl c.loop-i-test.true ∙ c.loop-i.invariant.2)
 
 pub returns : goal.returns
 returns c =
-    let s = c in
-    sym (all_end (λ b. b =? s.args.c) s.args.part.now s.loop-i.i s.loop-i.good c.loop-i-test.false) ∙ s.loop-i.invariant.2
+    sym (all_end (λ b. b =? c.args.c) c.args.part.now c.loop-i.i c.loop-i.good c.loop-i-test.false) ∙ c.loop-i.invariant.2

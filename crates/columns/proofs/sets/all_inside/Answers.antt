@@ -7,10 +7,8 @@ use Rattle.columns.proofs.sets.all_inside.Goals as goal
 
 pub loop-i-preserved : goal.loop-i-preserved
 loop-i-preserved c =
-    let s = c in
-    (refl, omega arith, all_turn (inside s.args.m) s.args.part.now s.loop-i.i s.loop-i.good _ c.is_inside-good.ensures c.loop-i-test.true ∙ s.loop-i.invariant.2)
+    (refl, omega arith, all_turn (inside c.args.m) c.args.part.now c.loop-i.i c.loop-i.good _ c.is_inside-good.ensures c.loop-i-test.true ∙ c.loop-i.invariant.2)
 
 pub returns : goal.returns
 returns c =
-    let s = c in
-    sym (all_end (inside s.args.m) s.args.part.now s.loop-i.i s.loop-i.good c.loop-i-test.false) ∙ s.loop-i.invariant.2
+    sym (all_end (inside c.args.m) c.args.part.now c.loop-i.i c.loop-i.good c.loop-i-test.false) ∙ c.loop-i.invariant.2

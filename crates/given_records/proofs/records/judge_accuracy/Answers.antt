@@ -14,7 +14,6 @@ use Rattle.given_records.proofs.records.judge_accuracy.Goals as goal
 pub returns : goal.returns
 unfolding accuracy_tests form word_of
 returns c =
-    let s = c in
-    let a = s.args in
-    rw (c.judge_one.ensures, c.judge_long-j-3.ensures, c.judge_signed-j.ensures ∙ ap (λ z. after_of c.judge_long-j-2.result (check (fits (height 10 99_999_990 99_999_999 false) (num z)) 9 (a.first + 20))) (to_z-of_z w64 _ s.ranges.correlation), c.judge_long-j-2.ensures, c.judge_long-j.ensures)
+    let a = c.args in
+    rw (c.judge_one.ensures, c.judge_long-j-3.ensures, c.judge_signed-j.ensures ∙ ap (λ z. after_of c.judge_long-j-2.result (check (fits (height 10 99_999_990 99_999_999 false) (num z)) 9 (a.first + 20))) (to_z-of_z w64 _ c.ranges.correlation), c.judge_long-j-2.ensures, c.judge_long-j.ensures)
     (after_chain a.j (accuracy_tests a.first a.north a.east a.correlation a.ellipsoid a.scaled) ∙ ap (after_of a.j) (sym (accuracy_chain a.first a.north a.east a.correlation a.ellipsoid a.scaled)))

@@ -6,17 +6,15 @@ use Rattle.judging.proofs.fields.judge_fields.Goals as goal
 
 pub loop-i-init : goal.loop-i-init
 loop-i-init c =
-    let e = c in
-    let s = e in
-    walk_from (expect_of s.args.e) s.args.line.now s.args.kind s.requires.1
-    e.start_at.result e.start_at.ensures c.wide-end.result c.wide-end.ensures
+    walk_from (expect_of c.args.e) c.args.line.now c.args.kind c.requires.1
+    c.start_at.result c.start_at.ensures c.wide-end.result c.wide-end.ensures
     c.start_at-2.result c.start_at-2.ensures c.wide-i.result c.wide-i.ensures
 
 pub judge_at-j-requires : goal.judge_at-j-requires
 judge_at-j-requires c = (search rules, below c.loop-i.invariant c.loop-i-test.true)
 
 pub point_at-requires : goal.point_at-requires
-point_at-requires c = let t = c in (search rules, below t.loop-i.invariant t.loop-i-test.true)
+point_at-requires c = (search rules, below c.loop-i.invariant c.loop-i-test.true)
 
 pub returns-in-Bad : goal.returns-in-Bad
 returns-in-Bad c = search (walk_stop, rules)

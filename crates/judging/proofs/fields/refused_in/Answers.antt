@@ -5,18 +5,15 @@ use Rattle.judging.proofs.fields.refused_in.Goals as goal
 
 pub spot_item-requires : goal.spot_item-requires
 spot_item-requires c =
-    let s = c in
-    let p = s.requires in
-    cut_spans s.args.line.now s.args.first s.args.width p.0 p.1 p.2 s.args.item p.3
+    let p = c.requires in
+    cut_spans c.args.line.now c.args.first c.args.width p.0 p.1 p.2 c.args.item p.3
 
 pub overflow_add-result : goal.overflow_add-result
 overflow_add-result c =
-    let s = c in
-    let p = s.requires in
-    omega (arith, spot_small s.args.line.now s.args.first s.args.width p.0 p.1 p.2 s.args.item p.3 c.spot_item.result c.spot_item.ensures)
+    let p = c.requires in
+    omega (arith, spot_small c.args.line.now c.args.first c.args.width p.0 p.1 p.2 c.args.item p.3 c.spot_item.result c.spot_item.ensures)
 
 pub returns : goal.returns
 returns c =
-    let s = c in
-    let p = s.requires in
-    refused_is s.args.line.now s.args.first s.args.width p.0 p.1 p.2 s.args.item p.3 c.spot_item.result c.spot_item.ensures
+    let p = c.requires in
+    refused_is c.args.line.now c.args.first c.args.width p.0 p.1 p.2 c.args.item p.3 c.spot_item.result c.spot_item.ensures

@@ -12,11 +12,9 @@ returns-then-kind-gt13 c = search (alone_code, rules)
 
 pub judge_rest-requires : goal.judge_rest-requires
 judge_rest-requires c =
-    let told = c in
-    let judged = told in
-    let l = judged.args.line.now in
-    let j = judged.judge_bytes-j in
-    (omega (arith, alone_long l j.result j.ensures told.in_default.is), omega arith)
+    let l = c.args.line.now in
+    let j = c.judge_bytes-j in
+    (omega (arith, alone_long l j.result j.ensures c.in_default.is), omega arith)
 
 pub returns : goal.returns
 returns c = search (alone_fields, rules)

@@ -4,8 +4,7 @@ use Rattle.judging.proofs.spots.is_good.Goals as goal
 
 pub is_media-requires : goal.is_media-requires
 is_media-requires c =
-    let s = c in
-    media_long s.args.part.now c.in-Media.is s.requires
+    media_long c.args.part.now c.in-Media.is c.requires
 
 pub returns-in-Blank : goal.returns-in-Blank
 returns-in-Blank c = rw c.in-Blank.is c.good_blank.ensures

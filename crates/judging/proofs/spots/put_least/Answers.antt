@@ -6,45 +6,36 @@ use Rattle.judging.proofs.spots.put_least.Goals as goal
 
 pub returns-in-Blank : goal.returns-in-Blank
 returns-in-Blank c =
-    let a = c in
-    least-blank (length a.args.out.now) c.in-Blank.is c.put_blank.ensures
+    least-blank (length c.args.out.now) c.in-Blank.is c.put_blank.ensures
 
 pub returns-in-Constant : goal.returns-in-Constant
 returns-in-Constant c =
-    let a = c in
-    least-constant (length a.args.out.now) _ c.in-Constant.is a.requires c.put_all.ensures
+    least-constant (length c.args.out.now) _ c.in-Constant.is c.requires c.put_all.ensures
 
 pub returns-in-Number : goal.returns-in-Number
 returns-in-Number c =
-    let a = c in
-    least-number (length a.args.out.now) _ _ _ c.in-Number.is _ c.long.ensures c.put_digits.ensures
+    least-number (length c.args.out.now) _ _ _ c.in-Number.is _ c.long.ensures c.put_digits.ensures
 
 pub returns-in-Height : goal.returns-in-Height
 returns-in-Height c =
-    let a = c in
-    least-height (length a.args.out.now) _ _ _ c.in-Height.is c.put_digits-in-Height.ensures
+    least-height (length c.args.out.now) _ _ _ c.in-Height.is c.put_digits-in-Height.ensures
 
 pub returns-in-Angle : goal.returns-in-Angle
 returns-in-Angle c =
-    let a = c in
-    least-angle (length a.args.out.now) _ a.args.out.now c.in-Angle.is a.requires refl c.put_angle.ensures
+    least-angle (length c.args.out.now) _ c.args.out.now c.in-Angle.is c.requires refl c.put_angle.ensures
 
 pub returns-in-Month : goal.returns-in-Month
 returns-in-Month c =
-    let a = c in
-    least-month (length a.args.out.now) a.args.out.now c.in-Month.is a.requires refl c.put_month.ensures
+    least-month (length c.args.out.now) c.args.out.now c.in-Month.is c.requires refl c.put_month.ensures
 
 pub returns-in-Media : goal.returns-in-Media
 returns-in-Media c =
-    let a = c in
-    least-media (length a.args.out.now) a.args.out.now c.in-Media.is a.requires refl c.put_media.ensures
+    least-media (length c.args.out.now) c.args.out.now c.in-Media.is c.requires refl c.put_media.ensures
 
 pub returns-in-Word : goal.returns-in-Word
 returns-in-Word c =
-    let a = c in
-    least-word (length a.args.out.now) _ c.in-Word.is _ c.one_of.ensures c.put_all-in-Word.ensures
+    least-word (length c.args.out.now) _ c.in-Word.is _ c.one_of.ensures c.put_all-in-Word.ensures
 
 pub returns-in-WordOrBlank : goal.returns-in-WordOrBlank
 returns-in-WordOrBlank c =
-    let a = c in
-    least-or-blank (length a.args.out.now) _ c.in-WordOrBlank.is _ c.one_of-in-WordOrBlank.ensures c.put_all-in-WordOrBlank.ensures
+    least-or-blank (length c.args.out.now) _ c.in-WordOrBlank.is _ c.one_of-in-WordOrBlank.ensures c.put_all-in-WordOrBlank.ensures

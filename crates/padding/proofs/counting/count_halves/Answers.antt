@@ -23,8 +23,4 @@ returns-then-near-far c = search (halved_none, rules)
 
 pub returns : goal.returns
 returns c =
-    let far = c in
-    let near = far in
-    let cut = near in
-    let start = cut in
-    halved _ start.start_behind-start.result (omega (arith, start.start_behind-start.ensures)) cut.if-size-start.false cut.if-input-start-ne10.false _ near.count_lines-near.ensures far.if-near-eq0.false _ far.count_lines-far.ensures c.if-far-eq0.false c.if-near-far.false
+    halved _ c.start_behind-start.result (omega (arith, c.start_behind-start.ensures)) c.if-size-start.false c.if-input-start-ne10.false _ c.count_lines-near.ensures c.if-near-eq0.false _ c.count_lines-far.ensures c.if-far-eq0.false c.if-near-far.false

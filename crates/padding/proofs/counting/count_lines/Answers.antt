@@ -14,11 +14,8 @@ returns-then-size-fourth c = untold _
 
 pub walk_out-requires : goal.walk_out-requires
 walk_out-requires c =
-    let walked = c in
-    let third = walked in
-    (refl, walked.walk_in_turn-lines.ensures.0, four-within _ _ _ _ _ third.if-size-second.false third.if-size-third.false third.if-size-fourth.false (omega arith), walked.walk_in_turn-lines.ensures.1.few)
+    (refl, c.walk_in_turn-lines.ensures.0, four-within _ _ _ _ _ c.if-size-second.false c.if-size-third.false c.if-size-fourth.false (omega arith), c.walk_in_turn-lines.ensures.1.few)
 
 pub returns : goal.returns
 returns c =
-    let walked = c in
-    told_through _ _ _ _ _ refl _ _ walked.walk_in_turn-lines.ensures.1 _ c.walk_out.ensures
+    told_through _ _ _ _ _ refl _ _ c.walk_in_turn-lines.ensures.1 _ c.walk_out.ensures

@@ -11,8 +11,7 @@ use Rattle.padding.proofs.counting.walk_on.Goals as goal
 next : (c : goal.Else-text_length-gt80)
     → c.loop-place.place + (c.feed_at-n.result + 1) ≤ length c.args.input.now + 1
 next c =
-    let s = c in
-    next_within _ s.loop-place.place (omega (arith, c.loop-place-test.true, s.requires.0)) _ c.middle-part.ensures _ c.feed_at-n.ensures
+    next_within _ c.loop-place.place (omega (arith, c.loop-place-test.true, c.requires.0)) _ c.middle-part.ensures _ c.feed_at-n.ensures
 
 pub loop-place-init : goal.loop-place-init
 loop-place-init c = search (passed_none, rules)

@@ -15,11 +15,9 @@ nearest_feed-requires c = (search rules, search rules, search rules)
 
 pub loop-i-preserved : goal.loop-i-preserved
 loop-i-preserved c =
-    let s = c in
-    let f = s.args.part.now in
-    (s.loop-i.invariant.0, omega arith, omega (arith, s.loop-i.invariant.2), subst (Found f (Seen f (s.loop-i.i + 1))) (sym (c.lesser_of-first.ensures ∙ ap (lesser s.loop-i.first) c.nearest_feed.ensures)) (found_turn f s.loop-i.i s.loop-i.first c.loop-i-test.true s.loop-i.invariant.3))
+    let f = c.args.part.now in
+    (c.loop-i.invariant.0, omega arith, omega (arith, c.loop-i.invariant.2), subst (Found f (Seen f (c.loop-i.i + 1))) (sym (c.lesser_of-first.ensures ∙ ap (lesser c.loop-i.first) c.nearest_feed.ensures)) (found_turn f c.loop-i.i c.loop-i.first c.loop-i-test.true c.loop-i.invariant.3))
 
 pub returns : goal.returns
 returns c =
-    let s = c in
-    found_all s.args.part.now s.loop-i.i s.loop-i.first s.loop-i.invariant.0 c.loop-i-test.false s.loop-i.invariant.3
+    found_all c.args.part.now c.loop-i.i c.loop-i.first c.loop-i.invariant.0 c.loop-i-test.false c.loop-i.invariant.3

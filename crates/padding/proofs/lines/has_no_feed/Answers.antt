@@ -10,11 +10,9 @@ use Rattle.padding.proofs.lines.has_no_feed.Goals as goal
 pub loop-i-preserved : goal.loop-i-preserved
 unfolding ◌=?◌
 loop-i-preserved c =
-    let s = c in
-    (refl, omega arith, all_turn (λ b. not (b =? 10)) s.args.part.now s.loop-i.i s.loop-i.free _ refl c.loop-i-test.true ∙ s.loop-i.invariant.2)
+    (refl, omega arith, all_turn (λ b. not (b =? 10)) c.args.part.now c.loop-i.i c.loop-i.free _ refl c.loop-i-test.true ∙ c.loop-i.invariant.2)
 
 pub returns : goal.returns
 unfolding is_free
 returns c =
-    let s = c in
-    sym (all_end (λ b. not (b =? 10)) s.args.part.now s.loop-i.i s.loop-i.free c.loop-i-test.false) ∙ s.loop-i.invariant.2
+    sym (all_end (λ b. not (b =? 10)) c.args.part.now c.loop-i.i c.loop-i.free c.loop-i-test.false) ∙ c.loop-i.invariant.2

@@ -9,18 +9,15 @@ use Rattle.padding.proofs.stretches.lay_in_turn.Goals as goal
 
 -- there is room for the line, and it is one that fits
 room : (c : goal.After-text_length-k) → c.loop-here.here.to + 81 ≤ length c.loop-here.out
-room c = let s = c in line_room _ _ s.loop-here.here s.loop-here.invariant.1.ready_here c.loop-here-test.true
+room c = line_room _ _ c.loop-here.here c.loop-here.invariant.1.ready_here c.loop-here-test.true
 
 -- the next line starts at most one byte behind the end
 next : (c : goal.After-slice_known-in-loop-here-1)
     → c.loop-here.here.from + (c.feed_at-n.result + 1)
     ≤ length c.args.input.now + 1
 next c =
-    let read = c in
-    let turn = read in
-    let s = turn in
-    let f = s.args.input.now in
-    next_within f s.loop-here.here.from (inside f _ s.loop-here.here s.loop-here.invariant.1.ready_here turn.loop-here-test.true) _ (window f s.loop-here.here.from) _ read.feed_at-n.ensures
+    let f = c.args.input.now in
+    next_within f c.loop-here.here.from (inside f _ c.loop-here.here c.loop-here.invariant.1.ready_here c.loop-here-test.true) _ (window f c.loop-here.here.from) _ c.feed_at-n.ensures
 
 pub returns-then-size-lt82 : goal.returns-then-size-lt82
 returns-then-size-lt82 c = search (turned_from, rules)
@@ -36,13 +33,10 @@ slice_bounds-lay_line-end c = let h = room c in search rules
 
 pub lay_line-requires : goal.lay_line-requires
 lay_line-requires c =
-    let read = c in
-    let turn = read in
-    let s = turn in
-    let f = s.args.input.now in
-    let ready = s.loop-here.invariant.1.ready_here in
-    let at = s.loop-here.here.from in
-    (text_there f at (inside f _ s.loop-here.here ready turn.loop-here-test.true) _ (window f at) _ read.feed_at-n.ensures _ read.text_length-k.ensures, line_fits f _ s.loop-here.here ready turn.loop-here-test.true _ (window f at) _ read.feed_at-n.ensures _ read.text_length-k.ensures, search rules, line_wide f _ s.loop-here.here ready turn.loop-here-test.true)
+    let f = c.args.input.now in
+    let ready = c.loop-here.invariant.1.ready_here in
+    let at = c.loop-here.here.from in
+    (text_there f at (inside f _ c.loop-here.here ready c.loop-here-test.true) _ (window f at) _ c.feed_at-n.ensures _ c.text_length-k.ensures, line_fits f _ c.loop-here.here ready c.loop-here-test.true _ (window f at) _ c.feed_at-n.ensures _ c.text_length-k.ensures, search rules, line_wide f _ c.loop-here.here ready c.loop-here-test.true)
 
 pub overflow_add-rest : goal.overflow_add-rest
 overflow_add-rest c = let h = next c in omega arith
@@ -52,9 +46,5 @@ overflow_add-rest-in-loop-here c = let h = next c in omega arith
 
 pub loop-here-preserved : goal.loop-here-preserved
 loop-here-preserved c =
-    let put = c in
-    let read = put in
-    let turn = read in
-    let s = turn in
-    let f = s.args.input.now in
-    (search rules, turned_next f _ _ _ _ s.loop-here.here s.loop-here.there s.loop-here.invariant.1 turn.loop-here-test.true _ (window f s.loop-here.here.from) read.feed_at-n.result read.feed_at-n.ensures read.text_length-k.result read.text_length-k.ensures _ put.lay_line.ensures)
+    let f = c.args.input.now in
+    (search rules, turned_next f _ _ _ _ c.loop-here.here c.loop-here.there c.loop-here.invariant.1 c.loop-here-test.true _ (window f c.loop-here.here.from) c.feed_at-n.result c.feed_at-n.ensures c.text_length-k.result c.text_length-k.ensures _ c.lay_line.ensures)

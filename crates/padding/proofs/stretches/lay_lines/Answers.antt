@@ -11,9 +11,5 @@ lay_stretch-requires-2 c = (search rules, search (turned_ready, rules))
 
 pub returns : goal.returns
 returns c =
-    let second = c in
-    let first = second in
-    let turns = first in
-    let start = turns in
-    turned_done _ _ _ _ _ _ _ turns.lay_in_turn-left.ensures _ first.lay_stretch.ensures _ second.lay_stretch-2.ensures
-    ∙ halves_laid _ _ start.args.start start.args.near start.args.lines start.requires.1 start.requires.2 start.requires.3 start.requires.4 start.requires.5
+    turned_done _ _ _ _ _ _ _ c.lay_in_turn-left.ensures _ c.lay_stretch.ensures _ c.lay_stretch-2.ensures
+    ∙ halves_laid _ _ c.args.start c.args.near c.args.lines c.requires.1 c.requires.2 c.requires.3 c.requires.4 c.requires.5

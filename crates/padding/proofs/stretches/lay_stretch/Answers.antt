@@ -15,9 +15,7 @@ next : (c : goal.After-slice_known-in-loop-lines-1)
     → c.loop-lines.from + (c.feed_at-n.result + 1)
     ≤ length c.args.input.now + 1
 next c =
-    let fed = c in
-    let turn = fed in
-    next_within _ _ (inside _ _ _ turn.loop-lines.invariant.1.ready turn.loop-lines-test.true) _ fed.middle-part.ensures _ fed.feed_at-n.ensures
+    next_within _ _ (inside _ _ _ c.loop-lines.invariant.1.ready c.loop-lines-test.true) _ c.middle-part.ensures _ c.feed_at-n.ensures
 
 pub loop-lines-init : goal.loop-lines-init
 loop-lines-init c = (search rules, search (lay_from, rules))
@@ -30,12 +28,9 @@ slice_bounds-lay_line-end c = let h = room c in search rules
 
 pub lay_line-requires : goal.lay_line-requires
 lay_line-requires c =
-    let read = c in
-    let fed = read in
-    let turn = fed in
-    let ready = turn.loop-lines.invariant.1.ready in
-    let some = turn.loop-lines-test.true in
-    (text_there _ _ (inside _ _ _ ready some) _ fed.middle-part.ensures _ fed.feed_at-n.ensures _ read.text_length-k.ensures, line_fits _ _ _ ready some _ fed.middle-part.ensures _ fed.feed_at-n.ensures _ read.text_length-k.ensures, search rules, line_wide _ _ _ ready some)
+    let ready = c.loop-lines.invariant.1.ready in
+    let some = c.loop-lines-test.true in
+    (text_there _ _ (inside _ _ _ ready some) _ c.middle-part.ensures _ c.feed_at-n.ensures _ c.text_length-k.ensures, line_fits _ _ _ ready some _ c.middle-part.ensures _ c.feed_at-n.ensures _ c.text_length-k.ensures, search rules, line_wide _ _ _ ready some)
 
 pub overflow_add-from : goal.overflow_add-from
 overflow_add-from c = let h = next c in omega arith
@@ -45,11 +40,7 @@ overflow_add-from-in-loop-lines c = let h = next c in omega arith
 
 pub loop-lines-preserved : goal.loop-lines-preserved
 loop-lines-preserved c =
-    let put = c in
-    let read = put in
-    let fed = read in
-    let turn = fed in
-    (search rules, lay_next _ _ _ _ _ turn.loop-lines.invariant.1 turn.loop-lines-test.true _ fed.middle-part.ensures fed.feed_at-n.result fed.feed_at-n.ensures _ read.text_length-k.ensures _ put.lay_line.ensures)
+    (search rules, lay_next _ _ _ _ _ c.loop-lines.invariant.1 c.loop-lines-test.true _ c.middle-part.ensures c.feed_at-n.result c.feed_at-n.ensures _ c.text_length-k.ensures _ c.lay_line.ensures)
 
 pub returns : goal.returns
 returns c = lay_done _ _ _ _ _ c.loop-lines.invariant.1 c.loop-lines-test.false

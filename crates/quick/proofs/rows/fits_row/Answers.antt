@@ -9,12 +9,10 @@ loop-i-init c = (c.requires, omega arith, λ q j h. absurd (omega arith))
 
 pub loop-i-preserved : goal.loop-i-preserved
 loop-i-preserved c =
-    let s = c in
-    let a = s.args in
-    (s.loop-i.invariant.0, omega arith, five_turn (five_at a.row.now a.line.now) s.loop-i.good c.five-good.result s.loop-i.i s.loop-i.invariant.2 c.five-good.ensures)
+    let a = c.args in
+    (c.loop-i.invariant.0, omega arith, five_turn (five_at a.row.now a.line.now) c.loop-i.good c.five-good.result c.loop-i.i c.loop-i.invariant.2 c.five-good.ensures)
 
 pub returns : goal.returns
 returns c =
-    let s = c in
-    let a = s.args in
-    λ q. five_columns a.row.now a.line.now (λ j h. s.loop-i.invariant.2 q j (omega (arith, h)))
+    let a = c.args in
+    λ q. five_columns a.row.now a.line.now (λ j h. c.loop-i.invariant.2 q j (omega (arith, h)))

@@ -10,13 +10,10 @@ loop-i-init c = (c.requires, omega arith, λ q j h. absurd (omega arith))
 
 pub loop-i-preserved : goal.loop-i-preserved
 loop-i-preserved c =
-    let d = c in
-    let s = d in
-    let a = s.args in
-    (s.loop-i.invariant.0, omega arith, five_turn (λ j. col_at a.row.now a.line.now j && five_texts a.line.now j) s.loop-i.good (d.column.result && c.five_texts.result) s.loop-i.i s.loop-i.invariant.2 (rw (d.column.ensures, c.five_texts.ensures)))
+    let a = c.args in
+    (c.loop-i.invariant.0, omega arith, five_turn (λ j. col_at a.row.now a.line.now j && five_texts a.line.now j) c.loop-i.good (c.column.result && c.five_texts.result) c.loop-i.i c.loop-i.invariant.2 (rw (c.column.ensures, c.five_texts.ensures)))
 
 pub returns : goal.returns
 returns c =
-    let s = c in
-    let a = s.args in
-    λ q. texts_from a.row.now a.line.now (λ j h. s.loop-i.invariant.2 q j (omega (arith, h)))
+    let a = c.args in
+    λ q. texts_from a.row.now a.line.now (λ j h. c.loop-i.invariant.2 q j (omega (arith, h)))

@@ -7,14 +7,7 @@ use Rattle.reading.proofs.values.read_local.Goals as goal
 
 pub returns : goal.returns
 returns c =
-    let f = c in
-    let e = f in
-    let d = e in
-    let x = d in
-    let b = x in
-    let g = b in
-    let a = g in
-    let l = a.args.line.now in
-    local-given l a.number_in.result a.number_in.ensures g.number_in-2.result g.number_in-2.ensures b.deviation_in.result b.deviation_in.ensures x.deviation_in-2.result x.deviation_in-2.ensures d.correlation_in.result d.correlation_in.ensures e.deviation_in-3.result e.deviation_in-3.ensures
-    f.char_in.result f.char_in.ensures
-    (c.new.ensures ∙ ap (λ z. record { standpoint = a.number_in.result; forepoint = g.number_in-2.result; north = b.deviation_in.result; east = x.deviation_in-2.result; correlation = z; ellipsoid = e.deviation_in-3.result; scaled = f.char_in.result }) (to_z-of_z {w = w64} {z = d.correlation_in.result} record { sfits = d.correlation_in.type_inv }))
+    let l = c.args.line.now in
+    local-given l c.number_in.result c.number_in.ensures c.number_in-2.result c.number_in-2.ensures c.deviation_in.result c.deviation_in.ensures c.deviation_in-2.result c.deviation_in-2.ensures c.correlation_in.result c.correlation_in.ensures c.deviation_in-3.result c.deviation_in-3.ensures
+    c.char_in.result c.char_in.ensures
+    (c.new.ensures ∙ ap (λ z. record { standpoint = c.number_in.result; forepoint = c.number_in-2.result; north = c.deviation_in.result; east = c.deviation_in-2.result; correlation = z; ellipsoid = c.deviation_in-3.result; scaled = c.char_in.result }) (to_z-of_z {w = w64} {z = c.correlation_in.result} record { sfits = c.correlation_in.type_inv }))

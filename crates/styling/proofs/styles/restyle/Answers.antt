@@ -6,9 +6,7 @@ use Rattle.styling.proofs.styles.restyle.Goals as goal
 
 pub returns : goal.returns
 returns c =
-    let copied = c in
-    let s = copied in
-    let a = s.args in
-    let h = s.requires in
-    rw (c.lay_one.ensures, c.style_fields.ensures, c.lay_number.ensures, copied.put_text.ensures, text_is a.line.now a.out.now (h.1 ∙ sym h.0))
+    let a = c.args in
+    let h = c.requires in
+    rw (c.lay_one.ensures, c.style_fields.ensures, c.lay_number.ensures, c.put_text.ensures, text_is a.line.now a.out.now (h.1 ∙ sym h.0))
     (line_styled a.line.now a.kind h.2 h.3 h.4 a.number h.0 h.5 h.6)

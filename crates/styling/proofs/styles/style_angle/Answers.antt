@@ -7,13 +7,10 @@ use Rattle.styling.proofs.styles.style_angle.Goals as goal
 
 pub returns-then-angle_stands : goal.returns-then-angle_stands
 returns-then-angle_stands c =
-    let s = c in
-    let a = s.args in
-    part_left a.line.now a.first (a.n + 1) s.requires.0 s.requires.1 s.requires.2 (angle_stands a.n a.plus) (λ bs. set bs a.n a.plus) c.angle_stands.ensures c.if-angle_stands.true
+    let a = c.args in
+    part_left a.line.now a.first (a.n + 1) c.requires.0 c.requires.1 c.requires.2 (angle_stands a.n a.plus) (λ bs. set bs a.n a.plus) c.angle_stands.ensures c.if-angle_stands.true
 
 pub returns : goal.returns
 returns c =
-    let b = c in
-    let s = b in
-    let a = s.args in
-    part_anew a.line.now a.first (a.n + 1) s.requires.0 s.requires.1 s.requires.2 (angle_stands a.n a.plus) (λ bs. set bs a.n a.plus) b.angle_stands.ensures (λ bs. length-set bs a.n a.plus) b.if-angle_stands.false c.put_letter.ensures
+    let a = c.args in
+    part_anew a.line.now a.first (a.n + 1) c.requires.0 c.requires.1 c.requires.2 (angle_stands a.n a.plus) (λ bs. set bs a.n a.plus) c.angle_stands.ensures (λ bs. length-set bs a.n a.plus) c.if-angle_stands.false c.put_letter.ensures

@@ -7,6 +7,5 @@ use Rattle.styling.proofs.styles.style_number.Goals as goal
 
 pub returns : goal.returns
 returns c =
-    let s = c in
-    let a = s.args in
-    part-changed a.line.now a.first a.w s.requires.0 s.requires.1 s.requires.2 (map filled) (λ bs. length-map bs filled) c.fill.ensures
+    let a = c.args in
+    part-changed a.line.now a.first a.w c.requires.0 c.requires.1 c.requires.2 (map filled) (λ bs. length-map bs filled) c.fill.ensures

@@ -6,13 +6,10 @@ use Rattle.styling.proofs.styles.style_rise.Goals as goal
 
 pub returns-then-rise_stands : goal.returns-then-rise_stands
 returns-then-rise_stands c =
-    let s = c in
-    let a = s.args in
-    part_left a.line.now a.first a.w s.requires.0 s.requires.1 s.requires.2 rise_stands height_anew c.rise_stands.ensures c.if-rise_stands.true
+    let a = c.args in
+    part_left a.line.now a.first a.w c.requires.0 c.requires.1 c.requires.2 rise_stands height_anew c.rise_stands.ensures c.if-rise_stands.true
 
 pub returns : goal.returns
 returns c =
-    let b = c in
-    let s = b in
-    let a = s.args in
-    part_anew a.line.now a.first a.w s.requires.0 s.requires.1 s.requires.2 rise_stands height_anew b.rise_stands.ensures height_same b.if-rise_stands.false c.write_height.ensures
+    let a = c.args in
+    part_anew a.line.now a.first a.w c.requires.0 c.requires.1 c.requires.2 rise_stands height_anew c.rise_stands.ensures height_same c.if-rise_stands.false c.write_height.ensures

@@ -5,14 +5,6 @@ use native.Mathlib.Omega.{arith}
 use Rattle.walk.proofs.WalkLaws.{no_longer, go_from, go_fault, go_known, go_next, go_short, go_good}
 use Rattle.walk.proofs.records.walk_records.Goals as goal
 
--- the record is of one of the fourteen kinds
-known : (c : goal.In-Next-unread) → (c.kind_at-kind.result < 14)
-known c = search (go_known, rules)
-
--- the record is of one of the fourteen kinds
-known' : (c : goal.In-Next) → (c.kind_at-kind.result < 14)
-known' c = search (go_known, rules)
-
 pub loop-i-init : goal.loop-i-init
 loop-i-init c = search (go_from, rules)
 
@@ -20,16 +12,16 @@ pub returns-in-Fault : goal.returns-in-Fault
 returns-in-Fault c = search (go_fault, rules)
 
 pub offset_bounds-counts-kind : goal.offset_bounds-counts-kind
-offset_bounds-counts-kind c = omega (arith, known c)
+offset_bounds-counts-kind c = let known : c.kind_at-kind.result < 14 = search (go_known, rules) in omega arith
 
 pub bounds-counts-kind : goal.bounds-counts-kind
 bounds-counts-kind c = search (go_known, rules)
 
 pub overflow_add-counts : goal.overflow_add-counts
-overflow_add-counts c = let d = c in let g = d.loop-i.invariant.1 in omega (arith, g.few, g.below d.kind_at-kind.result)
+overflow_add-counts c = let g = c.loop-i.invariant.1 in omega (arith, g.few, g.below c.kind_at-kind.result)
 
 pub offset_bounds-counts-kind-in-loop-i : goal.offset_bounds-counts-kind-in-loop-i
-offset_bounds-counts-kind-in-loop-i c = omega (arith, known' c)
+offset_bounds-counts-kind-in-loop-i c = let known : c.kind_at-kind.result < 14 = search (go_known, rules) in omega arith
 
 pub bounds-counts-kind-in-loop-i : goal.bounds-counts-kind-in-loop-i
 bounds-counts-kind-in-loop-i c = search (go_known, rules)

@@ -14,6 +14,5 @@ use Rattle.writing.proofs.lines.lay_accuracy.Goals as goal
 pub returns : goal.returns
 unfolding lay_fields field_of height_columns height_value render on_number on_text on_gap
 returns c =
-    let s = c in
-    let a = s.args in
-    rw (c.lay_one.ensures, c.lay_blank.ensures, c.lay_long-3.ensures, c.lay_signed.ensures ∙ ap (λ z. lay (a.first + 20) (height_columns 10 (Height.Mm z)) c.lay_long-2.new.line) (to_z-of_z w64 _ s.ranges.correlation), c.lay_long-2.ensures, c.lay_long.ensures)
+    let a = c.args in
+    rw (c.lay_one.ensures, c.lay_blank.ensures, c.lay_long-3.ensures, c.lay_signed.ensures ∙ ap (λ z. lay (a.first + 20) (height_columns 10 (Height.Mm z)) c.lay_long-2.new.line) (to_z-of_z w64 _ c.ranges.correlation), c.lay_long-2.ensures, c.lay_long.ensures)
