@@ -1,4 +1,3 @@
--- The invariant: the verdict on the lines from here on is the verdict on all, and their number with those passed is the number of all.
 use Prim.Native.Nat.{◌+◌, ◌≤◌}
 use native.Mathlib.Omega.{arith}
 use lib.ListN.{length}

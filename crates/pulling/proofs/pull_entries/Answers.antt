@@ -1,4 +1,3 @@
--- The invariant: what stands for the entries so far, with what is still to stand for the rest, is what stands for all.
 use borrow.Author.Rules.{rules}
 use Rattle.pulling.proofs.DrawingLaws.{draw_from, draw_next, draw_done}
 use Rattle.pulling.proofs.pull_entries.Goals as goal

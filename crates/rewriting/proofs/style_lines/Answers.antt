@@ -1,4 +1,3 @@
--- The invariant: what is laid so far, with what is left in house style, is the rewritten file.
 use borrow.Author.Rules.{rules}
 use Rattle.rewriting.proofs.LayingLaws.{lay_from, lay-formed, lay_long, lay-known, lay_next, lay_done}
 use Rattle.rewriting.proofs.style_lines.Goals as goal

@@ -1,4 +1,3 @@
--- A loop that compares with every character of the list; the law is `any-turn`. Assumes nothing.
 use mathlib.Core.Path.{refl, sym, ◌∙◌}
 use native.Mathlib.Omega.{arith}
 use Rattle.columns.proofs.Loops.{any_turn, any_end}

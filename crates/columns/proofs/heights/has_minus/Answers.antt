@@ -1,4 +1,3 @@
--- The invariant: found already, or nothing but blanks so far and still to be found. Assumes nothing.
 use mathlib.Core.Path.{refl, sym, ◌∙◌}
 use native.Mathlib.Omega.{arith}
 use Rattle.columns.proofs.Loops.{minus_turn, minus_end}

@@ -1,4 +1,3 @@
--- The invariant: the form from here on, after the column before. Assumes nothing.
 use mathlib.Core.Path.{refl, sym, ◌∙◌}
 use native.Mathlib.Omega.{arith}
 use Rattle.columns.proofs.Loops.{formed_turn, formed_end}

@@ -1,4 +1,3 @@
--- The invariant: what is read on from here is what was to be read, and the sum so far is what i bytes can make. Assumes nothing.
 use mathlib.Core.Path.{◌≡◌, refl, sym, ◌∙◌}
 use native.Mathlib.Omega.{arith}
 use lib.ListN.{length}

@@ -1,4 +1,3 @@
--- A loop that tests every column; the law is `all-turn`, whatever is tested. Assumes nothing.
 use mathlib.Core.Path.{refl, sym, ◌∙◌}
 use native.Mathlib.Omega.{arith}
 use Rattle.columns.specs.Leaves.{inside}

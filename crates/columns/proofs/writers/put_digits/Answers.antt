@@ -1,4 +1,3 @@
--- The invariant: the columns from i on hold the last digits, and those of the rest are still to come. Assumes nothing.
 use mathlib.Core.Path.{refl, sym, ◌∙◌}
 use native.Mathlib.Omega.{arith}
 use lib.ListN.{length-set}

@@ -1,4 +1,3 @@
--- The invariant: the first i columns are those of the text. Assumes nothing.
 use mathlib.Core.Path.{refl, sym, ◌∙◌}
 use native.Mathlib.Omega.{arith}
 use lib.ListN.{length-set}

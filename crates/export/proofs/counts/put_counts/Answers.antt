@@ -1,4 +1,3 @@
--- The invariant: the first i counts are laid.
 use lib.ListN.{length-set}
 use native.Mathlib.Omega.{arith}
 use Rattle.export.proofs.AnswerLaws.{copy_more, copy_done}

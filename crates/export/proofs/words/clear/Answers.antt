@@ -1,4 +1,3 @@
--- The invariant: zeros before i, and from i on what was lent.
 use borrow.Author.Rules.{rules}
 use Rattle.export.proofs.WordLaws.{clear_more, clear_done}
 use Rattle.export.proofs.words.clear.Goals as goal

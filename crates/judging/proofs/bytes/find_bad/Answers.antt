@@ -1,4 +1,3 @@
--- The invariant: the columns before i are printable, so that the lowest fault is that of the columns from i on.
 use borrow.Author.Rules.{rules}
 use mathlib.Core.Path.{refl}
 use native.Mathlib.Omega.{arith}

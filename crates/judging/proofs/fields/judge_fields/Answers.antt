@@ -1,4 +1,3 @@
--- The invariant: the fields before row i are good, so that the first fault is that of the rows from i on.
 use borrow.Author.Rules.{rules}
 use Rattle.kinds.specs.Values.{expect_of}
 use Rattle.judging.proofs.RowLaws.{walk_from, below, walk_stop, walk_on, walk_done}

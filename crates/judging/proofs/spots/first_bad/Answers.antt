@@ -1,4 +1,3 @@
--- The invariant: up to column k the field begins like a good one, so that the first column that does not is among those from k on.
 use mathlib.Core.Path.{refl}
 use native.Mathlib.Omega.{arith}
 use Prim.Native.Nat.{◌≤◌}

@@ -1,4 +1,3 @@
--- The invariant: the lines of the kinds so far are laid one after the other, and what lies outside is as it was.
 use borrow.Author.Rules.{rules}
 use Rattle.listing.proofs.LineLaws.{list_from, list_on, list_end}
 use Rattle.listing.proofs.lines.list_kinds.Goals as goal

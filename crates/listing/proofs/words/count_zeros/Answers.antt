@@ -1,4 +1,3 @@
--- The invariant: what is left without the zeros in front is the whole without them.
 use borrow.Author.Rules.{rules}
 use Rattle.listing.proofs.LayLaws.{zeros_on_lem, zeros_found, zeros_end}
 use Rattle.listing.proofs.words.count_zeros.Goals as goal

@@ -1,4 +1,3 @@
--- The invariant: the walk has passed good lines only.
 use Prim.Native.Nat.{◌+◌, ◌≤◌}
 use native.Mathlib.Omega.{arith}
 use lib.ListN.{length}

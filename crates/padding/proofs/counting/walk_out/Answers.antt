@@ -1,4 +1,3 @@
--- The invariant: the first k walks have come to their ends, the others stand where they stood.
 use mathlib.Core.Path.{refl}
 use native.Mathlib.Omega.{arith}
 use borrow.Author.Rules.{rules}

@@ -1,4 +1,3 @@
--- The invariant: the first i columns are those of the padded line.
 use Prim.Native.Nat.{◌≤◌}
 use native.Mathlib.Omega.{arith}
 use lib.ListN.{length-set}

@@ -1,4 +1,3 @@
--- The invariant: what stands before the first LF from here on, with what was passed, is what stands before it from the start.
 use mathlib.Core.Path.{refl}
 use native.Mathlib.Omega.{arith}
 use borrow.Author.Rules.{rules}

@@ -1,4 +1,3 @@
--- The invariant: the first LF among the bytes looked at so far.
 use mathlib.Core.Path.{refl, sym, ◌∙◌, ap, subst}
 use Prim.Native.Nat.{◌+◌}
 use native.Mathlib.Omega.{arith}

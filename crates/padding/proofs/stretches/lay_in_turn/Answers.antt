@@ -1,4 +1,3 @@
--- The invariant: what both stretches have left can be laid, and then all of both is laid.
 use Prim.Native.Nat.{◌+◌, ◌≤◌}
 use native.Mathlib.Omega.{arith}
 use lib.ListN.{length}

@@ -1,4 +1,3 @@
--- The invariant: what is left of the stretch can be laid, and then all of it is laid.
 use Prim.Native.Nat.{◌+◌, ◌≤◌}
 use native.Mathlib.Omega.{arith}
 use lib.ListN.{length}

@@ -1,4 +1,3 @@
--- The invariant: where nothing failed so far, the columns of every step so far are of their class.
 use native.Mathlib.Omega.{arith}
 use Rattle.quick.specs.Rows.{five_at}
 use Rattle.quick.proofs.CodeLaws.{five_turn, five_columns}

@@ -1,4 +1,3 @@
--- The invariant: where nothing failed so far, the columns of every step so far are printable, and those of the first sixteen of their class.
 use mathlib.Core.Bool.{◌&&◌}
 use native.Mathlib.Omega.{arith}
 use Rattle.quick.specs.Rows.{col_at, five_texts}

@@ -1,4 +1,3 @@
--- The invariant: no row before i starts at the column, so that the width is that of the rows from i on.
 use borrow.Author.Rules.{rules}
 use Rattle.reading.proofs.WidthLaws.{seek_from, below, seek_found, seek_on, seek_done}
 use Rattle.reading.proofs.widths.row_width.Goals as goal

@@ -1,4 +1,3 @@
--- The invariant: the columns before i are filled, and filling those from i on gives the goal. Assumes nothing.
 use mathlib.Core.Path.{refl, sym, ◌∙◌}
 use native.Mathlib.Omega.{arith}
 use lib.ListN.{length-set}

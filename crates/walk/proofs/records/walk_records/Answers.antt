@@ -1,4 +1,3 @@
--- The invariant: what is left to walk, count and fill from here is what was to do at the start.
 use Prim.Native.Nat.{◌<◌}
 use borrow.Author.Rules.{rules}
 use native.Mathlib.Omega.{arith}

@@ -1,4 +1,3 @@
--- The invariant: what is left to refer from here is what was to refer at the start.
 use borrow.Author.Rules.{rules}
 use Rattle.walk.proofs.ReferLaws.{refer_from, refer_fault, refer_on, refer_done}
 use Rattle.walk.proofs.referring.refer_records.Goals as goal
