@@ -11,7 +11,7 @@ slice_bounds-trial-end c = omega (arith, spans_80 _ _ c.requires.1)
 
 pub slice_bounds-is_good-end : goal.slice_bounds-is_good-end
 slice_bounds-is_good-end c =
-    omega (arith, spans_80 _ _ c.requires.1, trial_spans_80 _ _ c.requires.1.args.part.now c.args.end c.put_text.new.out c.args.k c.requires.0 (omega (arith, spans_80 _ _ c.requires.1)) c.put_text.ensures)
+    omega (arith, spans_80 _ _ c.requires.1, trial_room c.args.part.now c.args.end c.put_text.new.out c.args.k c.requires.0 (omega (arith, spans_80 _ _ c.requires.1)) c.put_text.ensures)
 
 pub is_good-requires : goal.is_good-requires
 is_good-requires c =
