@@ -1,12 +1,10 @@
 -- What write is given: words taken for a sequence number and a record, in the order in which read answers them.
-use Rattle.std.specs.Prelude.{◌≡◌, Bool, false, cond, List, [], ◌∷◌, ℕ, suc, ◌+◌, get_or, ℤ, pos, negsuc}
+use Rattle.std.specs.Prelude.{◌≡◌, Bool, false, cond, List, [], ◌∷◌, ℕ, suc, ◌+◌, get_or, ℤ, pos, negsuc, Option, Some, None}
 use Rattle.rules.specs.Tests.{◌≤?◌, ◌=?◌}
-use Rattle.columns.specs.declared.Height.{Height}
 use Rattle.columns.specs.declared.Four.{Four}
 use Rattle.columns.specs.declared.Media.{Media}
 use Rattle.kinds.specs.declared.Two.{Two}
 use Rattle.kinds.specs.declared.Three.{Three}
-use Rattle.kinds.specs.declared.Sequence.{Sequence}
 use Rattle.kinds.specs.declared.Project.{Project}
 use Rattle.kinds.specs.declared.Occupation.{Occupation}
 use Rattle.kinds.specs.declared.Measurement.{Measurement}
@@ -50,13 +48,13 @@ unfoldable pub is_least : ℤ → Bool
 is_least (pos n) = false
 is_least (negsuc n) = suc n =? 9_223_372_036_854_775_808
 
-unfoldable pub height_of : ℤ → Height
-height_of z = cond (is_least z) Height.Missing (Height.Mm (signed_of z))
+unfoldable pub height_of : ℤ → Option ℤ
+height_of z = cond (is_least z) None (Some (signed_of z))
 
 -- -1 is a missing sequence number
-unfoldable pub sequence_of : ℤ → Sequence
-sequence_of (pos n) = Sequence.Number (number_of (pos n))
-sequence_of (negsuc n) = cond (suc n =? 1) Sequence.Missing (Sequence.Number 4_294_967_295)
+unfoldable pub sequence_of : ℤ → Option ℕ
+sequence_of (pos n) = Some (number_of (pos n))
+sequence_of (negsuc n) = cond (suc n =? 1) None (Some 4_294_967_295)
 
 -- ---- short codes from word i on
 abbrev pub character_at : List ℤ → ℕ → ℕ
@@ -151,7 +149,7 @@ record_given k ws = get_or (records_given ws) k (R.Job record { first = 0; secon
 abbrev pub given : List ℤ → Record
 given ws = record_given (number_at ws 0) ws
 
-abbrev pub sequence_given : List ℤ → Sequence
+abbrev pub sequence_given : List ℤ → Option ℕ
 sequence_given ws = sequence_of (word_at ws 1)
 
 -- ---- the answer: number, record, column

@@ -6,8 +6,9 @@ use Rattle.rules.specs.Fields.{Field, anything, Verdict, check, ◌⨾◌, judge
 use Rattle.rules.specs.Records.{sequence, told, of_kind}
 use Rattle.rules.specs.Layouts.{at}
 use Rattle.rules.specs.Chapter4.{chapter4}
-use Rattle.kinds.specs.Values.{kind_number, sequence_value, meaning_of}
+use Rattle.kinds.specs.Values.{kind_number, meaning_of}
 use Rattle.answers.specs.Given.{word_at, is_least, given, sequence_given}
+use Rattle.columns.specs.Types.{count_value}
 
 -- ---- a field's words
 -- how many it has: the texts of more than four columns have none
@@ -66,7 +67,7 @@ holds (word w t) ws p = cond (w ≤? 4) (holds_characters w ws p) true
 
 -- ---- the verdict on what stands to the left of a field, with room for so many bytes
 unfoldable pub left_of_code : ℕ → List ℤ → Verdict
-left_of_code room ws = check (81 ≤? room) 1 0 ⨾ check (fits sequence (sequence_value (sequence_given ws))) 9 1
+left_of_code room ws = check (81 ≤? room) 1 0 ⨾ check (fits sequence (count_value (sequence_given ws))) 9 1
 
 unfoldable pub left_of_field : ℕ → List ℤ → (x y z : List ℕ) → ℕ → Verdict
 left_of_field room ws x y z i =

@@ -4,11 +4,12 @@ use Rattle.rules.specs.Fields.{Verdict}
 use Rattle.rules.specs.Calls.{form_answer, references_answer, references_table, rewrite_answer, rewrite_table, rewrite_output, read_of, write_verdict, write_output}
 use Rattle.rules.specs.Padding.{pad_answer, pad_output}
 use Rattle.rules.specs.Pulling.{pull_answer, pull_output, pull_faults}
-use Rattle.kinds.specs.Values.{kind_number, sequence_value, meaning_of, checked_of, fault_of, reading_of, written_of}
+use Rattle.kinds.specs.Values.{kind_number, meaning_of, checked_of, fault_of, reading_of, written_of}
 use Rattle.padding.specs.Promise.{padded_of}
 use Rattle.answers.specs.Answers.{answered, touched, fault_words, checked_words, padded_words, field_words}
 use Rattle.answers.specs.Words.{read_words}
 use Rattle.answers.specs.Given.{given, sequence_given, written_words}
+use Rattle.columns.specs.Types.{count_value}
 
 -- of a file f and an answer a: the answer b
 pub record Forms (f a b : List ℕ) : Type 0 where
@@ -46,10 +47,10 @@ pub record Finds (f : List ℕ) (r c : ℕ) (a b : List ℕ) : Type 0 where
 
 -- the verdict on values ws and texts x y z, with room for so many bytes
 unfoldable pub words_verdict : ℕ → List ℤ → (x y z : List ℕ) → Verdict
-words_verdict room ws x y z = write_verdict room (kind_number (given ws)) (sequence_value (sequence_given ws)) (meaning_of (given ws) x y z)
+words_verdict room ws x y z = write_verdict room (kind_number (given ws)) (count_value (sequence_given ws)) (meaning_of (given ws) x y z)
 
 unfoldable pub words_output : List ℤ → (x y z : List ℕ) → List ℕ → List ℕ
-words_output ws x y z o = write_output (kind_number (given ws)) (sequence_value (sequence_given ws)) (meaning_of (given ws) x y z) o
+words_output ws x y z o = write_output (kind_number (given ws)) (count_value (sequence_given ws)) (meaning_of (given ws) x y z) o
 
 -- of an output o, values ws and texts x y z
 pub record Writes (o : List ℕ) (ws : List ℤ) (x y z a p b : List ℕ) : Type 0 where

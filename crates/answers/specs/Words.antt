@@ -1,12 +1,10 @@
 -- What read answers: a record's values as words, in column order.
-use Rattle.std.specs.Prelude.{◌≡◌, Bool, true, List, [], ◌∷◌, ◌++◌, ℕ, ◌+◌, ◌-◌, length, replicate, set, ℤ, pos, negsuc}
+use Rattle.std.specs.Prelude.{◌≡◌, Bool, true, List, [], ◌∷◌, ◌++◌, ℕ, ◌+◌, ◌-◌, length, replicate, set, ℤ, pos, negsuc, Option, Some, None}
 use Rattle.rules.specs.Tests.{all, ◌≤?◌}
-use Rattle.columns.specs.declared.Height.{Height}
 use Rattle.columns.specs.declared.Four.{Four}
 use Rattle.columns.specs.declared.Media.{Media}
 use Rattle.kinds.specs.declared.Two.{Two}
 use Rattle.kinds.specs.declared.Three.{Three}
-use Rattle.kinds.specs.declared.Sequence.{Sequence}
 use Rattle.kinds.specs.declared.Project.{Project}
 use Rattle.kinds.specs.declared.Occupation.{Occupation}
 use Rattle.kinds.specs.declared.Measurement.{Measurement}
@@ -23,13 +21,13 @@ use Rattle.answers.specs.Answers.{Small}
 
 -- ---- one value: a number one word, a short code one for each character
 -- missing is the least word, and not 0
-unfoldable pub height_word : Height → ℤ
-height_word Height.Missing = negsuc 9_223_372_036_854_775_807
-height_word (Height.Mm z) = z
+unfoldable pub height_word : Option ℤ → ℤ
+height_word None = negsuc 9_223_372_036_854_775_807
+height_word (Some z) = z
 
-unfoldable pub sequence_word : Sequence → ℤ
-sequence_word Sequence.Missing = negsuc 0
-sequence_word (Sequence.Number n) = pos n
+unfoldable pub sequence_word : Option ℕ → ℤ
+sequence_word None = negsuc 0
+sequence_word (Some n) = pos n
 
 unfoldable pub two_words : Two → List ℤ
 two_words t = pos t.0 ∷ pos t.1 ∷ []
@@ -120,7 +118,7 @@ in_range r = all (λ n. n ≤? 999_999_999) (deviations_of r)
 -- a refusal's record and column fit words, and so do the standard deviations of a record
 pub record Told (x : Reading) : Type 0 where
   pub small : (f : Fault) → x ≡ Reading.Refused f → Small f
-  pub held : (s : Sequence) (r : Record) → x ≡ Reading.Values s r → in_range r ≡ true
+  pub held : (s : Option ℕ) (r : Record) → x ≡ Reading.Values s r → in_range r ≡ true
 
 -- ---- words laid over others from word i on
 unfoldable pub laid : ℕ → List ℤ → List ℤ → List ℤ

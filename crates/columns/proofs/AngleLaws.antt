@@ -5,7 +5,8 @@ use mathlib.Core.List.{List, [], ◌∷◌, ◌++◌}
 use Prim.Native.Nat.{ℕ, zero, suc, ◌+◌, ◌-◌, ◌/◌, ◌%◌, ◌^◌, ◌≤◌, ◌<◌}
 use native.Mathlib.Omega.{arith}
 use lib.Dec.{leb, eqb}
-use lib.IntN.{ℤ, pos, negsuc}
+use lib.IntN.{ℤ, pos, negsuc, nat_abs}
+use lib.Signed.{lt_z}
 use lib.ListN.{length, get_or, set, take, drop, drop_of_length-le}
 use lib.Seq.{drop-cons, length-take-le, set_at}
 use Rattle.rules.specs.Tests.{◌&◌, ◌≤?◌, ◌=?◌, within, all}
@@ -18,11 +19,11 @@ use Rattle.rules.proofs.DigitLaws.{length-put}
 use Rattle.rules.proofs.Lawful.{low-top}
 use Rattle.rules.proofs.FileLaws.{length-take_most}
 use Rattle.columns.specs.Types.{way_of, int_of}
-use Rattle.columns.specs.Leaves.{limits_of, digits_up_to, long_fits, split_long_of}
+use Rattle.columns.specs.Leaves.{limits_of, digits_up_to}
 use Rattle.columns.specs.declared.Way.{Way}
 use Rattle.columns.specs.declared.angles.Limits.{Limits}
-use Rattle.columns.specs.declared.signs.SplitLong.{SplitLong}
 use Rattle.columns.proofs.Loops.{&_is}
+use Rattle.columns.proofs.Signed.{not_below}
 
 -- ---- the limits
 pub record Agrees (m : Limits) (w : items.Way) : Type 0 where
@@ -99,35 +100,24 @@ unfolding angle_of
 angle_small v h = omega arith
 
 -- ---- fitting
-long_split : (w : items.Way) (z : ℤ) → long_fits (top w) (low w) (split_long_of z) ≡ fits (angle w) (num z)
-unfolding long_fits fits on_number
-long_split w (pos n) = refl
-long_split w (negsuc n) = refl
+by_sign : (w : items.Way) (z : ℤ) → leb (nat_abs z) (cond (lt_z z (pos 0)) (low w) (top w)) ≡ fits (angle w) (num z)
+unfolding fits on_number ◌≤?◌
+by_sign w (pos n) = rw (not_below n)
+by_sign w (negsuc n) = refl
 
-pub angle-fits_is : {m : Limits} {w : items.Way} → Agrees m w → (z : ℤ) {s : SplitLong} {r : Bool} → s ≡ split_long_of z → r ≡ long_fits m.top m.low s → r ≡ fits (angle w) (num z)
-angle-fits_is {w = w} a z e h = rw (h, e, a.most, a.least) (long_split w z)
+pub angle-fits_is : {m : Limits} {w : items.Way} → Agrees m w → (z : ℤ) {y : ℤ} {n k : ℕ} → y ≡ z → n ≡ nat_abs y → k ≡ cond (lt_z y (pos 0)) m.low m.top → leb n k ≡ fits (angle w) (num z)
+angle-fits_is {w = w} a z q e h = rw (e, h, q, a.most, a.least) (by_sign w z)
 
 -- ---- writing
-module _ (w : items.Way) where
-  pub plus_small : (z : ℤ) {n : ℕ} → fits (angle w) (num z) ≡ true → split_long_of z ≡ SplitLong.Plus n → n ≤ 64_800_000_000
-  unfolding fits on_number
-  plus_small (pos k) {n} h e = let q : k ≡ n = cc in omega (arith, to≤ h, top_most w, q)
-  plus_small (negsuc k) h e = let z : ◌≡◌ {A = ℕ} 0 1 = cc in absurd (omega arith)
+pub angle_size : (w : items.Way) (z : ℤ) {y : ℤ} {n : ℕ} → fits (angle w) (num z) ≡ true → y ≡ z → n ≡ nat_abs y → n ≤ 64_800_000_000
+unfolding fits on_number
+angle_size w (pos k) h q e = omega (arith, to≤ h, top_most w, e ∙ ap nat_abs q)
+angle_size w (negsuc k) h q e = omega (arith, to≤ h, low-top w, top_most w, e ∙ ap nat_abs q)
 
-  pub minus_small : (z : ℤ) {n : ℕ} → fits (angle w) (num z) ≡ true → split_long_of z ≡ SplitLong.Minus n → n ≤ 64_800_000_000
-  unfolding fits on_number
-  minus_small (pos k) h e = let z : ◌≡◌ {A = ℕ} 0 1 = cc in absurd (omega arith)
-  minus_small (negsuc k) {n} h e = let q : suc k ≡ n = cc in omega (arith, to≤ h, low-top w, top_most w, q)
-
-  pub plus-render : (z : ℤ) {n : ℕ} → split_long_of z ≡ SplitLong.Plus n → put (columns w) (dms n) ++ plus w ∷ [] ≡ render (angle w) (num z)
-  unfolding render on_number
-  plus-render (pos k) {n} e = let q : n ≡ k = cc in rw q
-  plus-render (negsuc k) e = let z : ◌≡◌ {A = ℕ} 0 1 = cc in absurd (omega arith)
-
-  pub minus-render : (z : ℤ) {n : ℕ} → split_long_of z ≡ SplitLong.Minus n → put (columns w) (dms n) ++ minus_of w ∷ [] ≡ render (angle w) (num z)
-  unfolding render on_number
-  minus-render (pos k) e = let z : ◌≡◌ {A = ℕ} 0 1 = cc in absurd (omega arith)
-  minus-render (negsuc k) {n} e = let q : n ≡ suc k = cc in rw q
+pub angle-render : {m : Limits} {w : items.Way} → Agrees m w → (z : ℤ) {y : ℤ} {n l : ℕ} → y ≡ z → n ≡ nat_abs y → l ≡ cond (lt_z y (pos 0)) m.minus m.plus → put (columns w) (dms n) ++ l ∷ [] ≡ render (angle w) (num z)
+unfolding render on_number
+angle-render a (pos k) q e h = rw (h, e, q, not_below k, a.east)
+angle-render a (negsuc k) q e h = rw (h, e, q, a.west)
 
 pub angle-wide_is : {m : Limits} {w : items.Way} → Agrees m w → width (angle w) ≡ m.columns + 1
 unfolding width

@@ -5,7 +5,8 @@ use mathlib.Core.List.{List, [], ◌∷◌}
 use Prim.Native.Nat.{ℕ, suc, ◌-◌, ◌^◌, ◌≤◌, ◌<◌}
 use native.Mathlib.Omega.{arith}
 use lib.Dec.{leb, eqb}
-use lib.IntN.{ℤ, pos, negsuc}
+use lib.IntN.{ℤ, pos, negsuc, nat_abs}
+use lib.Signed.{lt_z}
 use lib.ListN.{length}
 use Rattle.rules.specs.Tests.{◌&◌, ◌≤?◌, ◌=?◌, within, all}
 use Rattle.rules.specs.Characters.{is_blank, is_digit}
@@ -13,27 +14,26 @@ use Rattle.rules.specs.Digits.{val}
 use Rattle.rules.specs.Items.{minus, signed, number, height, month, num, on_number, width, shape, value_of, fits, good}
 use Rattle.rules.proofs.Truth.{both, of≤, to≡, cases, of>, true_and}
 use Rattle.columns.specs.Types.{count_of, count_value, height_of, height_value, int_of, nat_of}
-use Rattle.columns.specs.Leaves.{split_long_of, between, split_fits}
-use Rattle.columns.specs.declared.Count.{Count}
-use Rattle.columns.specs.declared.Height.{Height}
-use Rattle.columns.specs.declared.signs.SplitLong.{SplitLong}
+use Rattle.columns.specs.Leaves.{between}
 use Rattle.columns.proofs.Loops.{&_is}
+use Rattle.columns.proofs.Signed.{not_below}
+use Rattle.std.specs.Prelude.{Option, Some, None}
 
 -- ---- reading
 module _ (bs : List ℕ) {r : Bool} (e : r ≡ all is_blank bs) where
-  pub count_blank : r ≡ true → Count.Missing ≡ count_of (value_of (number 0 0 0 true) bs)
+  pub count_blank : r ≡ true → None ≡ count_of (value_of (number 0 0 0 true) bs)
   unfolding count_of value_of
   count_blank h = rw (sym e ∙ h)
 
-  pub count_some : {v : ℕ} → r ≡ false → v ≡ val 0 bs → Count.Is v ≡ count_of (value_of (number 0 0 0 true) bs)
+  pub count_some : {v : ℕ} → r ≡ false → v ≡ val 0 bs → Some v ≡ count_of (value_of (number 0 0 0 true) bs)
   unfolding count_of value_of
   count_some h k = rw (k, sym e ∙ h)
 
-  pub height-blank : r ≡ true → Height.Missing ≡ height_of (value_of (height 0 0 0 true) bs)
+  pub height-blank : r ≡ true → None ≡ height_of (value_of (height 0 0 0 true) bs)
   unfolding height_of value_of
   height-blank h = rw (sym e ∙ h)
 
-  pub height-some : {m : Bool} {v : ℕ} {z : ℤ} → r ≡ false → m ≡ minus bs → v ≡ val 0 bs → z ≡ signed m v → Height.Mm z ≡ height_of (value_of (height 0 0 0 true) bs)
+  pub height-some : {m : Bool} {v : ℕ} {z : ℤ} → r ≡ false → m ≡ minus bs → v ≡ val 0 bs → z ≡ signed m v → Some z ≡ height_of (value_of (height 0 0 0 true) bs)
   unfolding height_of value_of
   height-some h d k q = rw (q, d, k, sym e ∙ h)
 
@@ -66,12 +66,12 @@ month-good bs d e k =
     (λ h. unfold ◌&◌ ◌=?◌ in rw h)
 
 -- ---- fitting
-module _ (w lo hi : ℕ) (may : Bool) {x : Count} where
-  pub count_missing : x ≡ Count.Missing → may ≡ fits (number w lo hi may) (count_value x)
+module _ (w lo hi : ℕ) (may : Bool) {x : Option ℕ} where
+  pub count_missing : x ≡ None → may ≡ fits (number w lo hi may) (count_value x)
   unfolding fits on_number count_value
   count_missing e = rw e
 
-  pub count_is : {n m : ℕ} {r : Bool} → x ≡ Count.Is n → m ≡ n → r ≡ fits (number w lo hi false) (num (pos m)) → r ≡ fits (number w lo hi may) (count_value x)
+  pub count_is : {n m : ℕ} {r : Bool} → x ≡ Some n → m ≡ n → r ≡ fits (number w lo hi false) (num (pos m)) → r ≡ fits (number w lo hi may) (count_value x)
   unfolding fits on_number count_value
   count_is e q k = k ∙ rw (e, q)
 
@@ -89,34 +89,29 @@ module _ (lo hi n : ℕ) {t : Bool} {m : ℕ} where
   unfolding between ◌≤?◌
   between_above e k = rw (e, k)
 
-pub split_none : (w lo hi : ℕ) (s : SplitLong) → w < 1 → false ≡ split_fits w lo hi s
-unfolding split_fits ◌&◌
-split_none w lo hi (SplitLong.Plus n) h = rw (of> h)
-split_none w lo hi (SplitLong.Minus n) h = rw (of> h)
+pub signed_none : (w lo hi : ℕ) (z : ℤ) → w < 1 → false ≡ fits (height w lo hi false) (num z)
+unfolding fits on_number ◌&◌
+signed_none w lo hi (pos n) h = rw (of> h)
+signed_none w lo hi (negsuc n) h = rw (of> h)
 
-module _ (w lo hi : ℕ) {s : SplitLong} {n : ℕ} {r t : Bool} (h : 1 ≤ w) where
-  pub split_plus : s ≡ SplitLong.Plus n → r ≡ (suc n ≤? 10 ^ w) → t ≡ between lo hi false n → (r && t) ≡ split_fits w lo hi s
-  unfolding split_fits
-  split_plus e q k = rw (e, of≤ h, q, k, true_and) (sym (&_is _ _))
+pub signed_is : (w lo hi : ℕ) (z : ℤ) {y : ℤ} {n room : ℕ} {r t : Bool} → 1 ≤ w → y ≡ z → n ≡ nat_abs y → room ≡ cond (lt_z y (pos 0)) (w - 1) w
+    → r ≡ (suc n ≤? 10 ^ room) → t ≡ between lo hi (lt_z y (pos 0)) n → (r && t) ≡ fits (height w lo hi false) (num z)
+unfolding fits on_number between
+signed_is w lo hi (pos m) h q e d k l = rw (k, l, d, e, q, not_below m, of≤ h, true_and) (sym (&_is _ _))
+signed_is w lo hi (negsuc m) h q e d k l = rw (k, l, d, e, q, of≤ h, true_and) (sym (&_is _ _))
 
-  pub split_minus : s ≡ SplitLong.Minus n → r ≡ (suc n ≤? 10 ^ (w - 1)) → t ≡ between lo hi true n → (r && t) ≡ split_fits w lo hi s
-  unfolding split_fits
-  split_minus e q k = rw (e, of≤ h, q, k, true_and) (sym (&_is _ _))
-
-split_fits_lem : (w lo hi : ℕ) (may : Bool) (z : ℤ) → split_fits w lo hi (split_long_of z) ≡ fits (height w lo hi may) (num z)
-unfolding split_fits between fits on_number
-split_fits_lem w lo hi may (pos n) = refl
-split_fits_lem w lo hi may (negsuc n) = refl
+-- a number that is there fits whether it may be missing or not
+may_not : (w lo hi : ℕ) (may : Bool) (z : ℤ) → fits (height w lo hi false) (num z) ≡ fits (height w lo hi may) (num z)
+unfolding fits on_number
+may_not w lo hi may (pos n) = refl
+may_not w lo hi may (negsuc n) = refl
 
 module _ (w lo hi : ℕ) where
-  pub signed_is : (z : ℤ) {y : ℤ} {s : SplitLong} {r : Bool} → s ≡ split_long_of y → y ≡ z → r ≡ split_fits w lo hi s → r ≡ fits (height w lo hi false) (num z)
-  signed_is z q e k = rw (k, q, e) (split_fits_lem w lo hi false z)
-
-  module _ (may : Bool) {x : Height} where
-    pub height-missing : x ≡ Height.Missing → may ≡ fits (height w lo hi may) (height_value x)
+  module _ (may : Bool) {x : Option ℤ} where
+    pub height-missing : x ≡ None → may ≡ fits (height w lo hi may) (height_value x)
     unfolding fits on_number height_value
     height-missing e = rw e
 
-    pub height_is : {z y : ℤ} {r : Bool} → x ≡ Height.Mm z → y ≡ z → r ≡ fits (height w lo hi false) (num y) → r ≡ fits (height w lo hi may) (height_value x)
+    pub height_is : {z y : ℤ} {r : Bool} → x ≡ Some z → y ≡ z → r ≡ fits (height w lo hi false) (num y) → r ≡ fits (height w lo hi may) (height_value x)
     unfolding height_value
-    height_is {z} e q k = rw (e) (k ∙ rw q (sym (split_fits_lem w lo hi false z) ∙ split_fits_lem w lo hi may z))
+    height_is {z} e q k = rw (e) (k ∙ rw q (may_not w lo hi may z))

@@ -1,16 +1,13 @@
 -- What the parts of the work give.
-use Rattle.std.specs.Prelude.{◌≡◌, Bool, true, false, cond, not, ◌&&◌, ◌||◌, List, [], ◌∷◌, ℕ, zero, suc, ◌+◌, ◌-◌, ◌*◌, ◌^◌, ◌≤◌, leb, eqb, length, get_or, ℤ, pos, negsuc}
+use Rattle.std.specs.Prelude.{◌≡◌, Bool, true, false, cond, not, ◌&&◌, ◌||◌, List, [], ◌∷◌, ℕ, zero, suc, ◌+◌, ◌-◌, ◌*◌, ◌^◌, ◌≤◌, leb, eqb, length, get_or, ℤ, pos, negsuc, Option}
 use Rattle.rules.specs.Tests.{◌&◌, ◌≤?◌, ◌=?◌, all}
 use Rattle.rules.specs.Characters.{is_digit, any_of, title_characters, name_characters}
 use Rattle.rules.specs.Digits.{val, put}
 use Rattle.rules.specs.Items.{Item, height, Value, width, fits, render, dms_form, angle_of}
 use Rattle.columns.specs.Types.{height_value}
-use Rattle.columns.specs.declared.Height.{Height}
 use Rattle.columns.specs.declared.Way.{Way}
 use Rattle.columns.specs.declared.Set.{Set}
 use Rattle.columns.specs.declared.sets.Ranges.{Ranges}
-use Rattle.columns.specs.declared.signs.Split.{Split}
-use Rattle.columns.specs.declared.signs.SplitLong.{SplitLong}
 use Rattle.columns.specs.declared.angles.Limits.{Limits}
 
 -- what a writer leaves in columns that held `old`: the value in house style, if it fits and so do they; else what they held
@@ -51,31 +48,13 @@ formed mark p (b ∷ bs) = (is_digit b || (b =? 32 || b =? mark) && p =? 32) & f
 unfoldable pub last_of : List ℕ → ℕ
 last_of bs = get_or (32 ∷ bs) (length bs) 0
 
--- ---- signs
-abbrev pub split_of : ℤ → Split
-split_of (pos n) = Split.Plus n
-split_of (negsuc n) = Split.Minus (suc n)
-
-abbrev pub split_long_of : ℤ → SplitLong
-split_long_of (pos n) = SplitLong.Plus n
-split_long_of (negsuc n) = SplitLong.Minus (suc n)
-
 -- ---- heights
 -- a number with its sign lies from -lo to hi
 unfoldable pub between : (lo hi : ℕ) → Bool → ℕ → Bool
 between lo hi negative n = n ≤? cond negative lo hi
 
-unfoldable pub split_fits : (w lo hi : ℕ) → SplitLong → Bool
-split_fits w lo hi (SplitLong.Plus n) = 1 ≤? w & suc n ≤? 10 ^ w & between lo hi false n
-split_fits w lo hi (SplitLong.Minus n) = 1 ≤? w & suc n ≤? 10 ^ (w - 1) & between lo hi true n
-
-unfoldable pub split_columns : ℕ → SplitLong → List ℕ
-split_columns w (SplitLong.Plus n) = put w n
-split_columns zero (SplitLong.Minus n) = []
-split_columns (suc w) (SplitLong.Minus n) = 45 ∷ put w n
-
 -- a height in no columns is nothing, and else in house style
-unfoldable pub height_columns : ℕ → Height → List ℕ
+unfoldable pub height_columns : ℕ → Option ℤ → List ℕ
 height_columns zero h = []
 height_columns (suc w) h = render (height (suc w) 0 0 true) (height_value h)
 
@@ -86,7 +65,3 @@ limits_of Way.Longitude = record { columns = 12; top = 64_800_000_000; low = 64_
 
 unfoldable pub digits_up_to : ℕ → List ℕ → Bool
 digits_up_to top ds = all is_digit ds & dms_form (val 0 ds) & angle_of (val 0 ds) ≤? top
-
-unfoldable pub long_fits : ℕ → ℕ → SplitLong → Bool
-long_fits top low (SplitLong.Plus m) = m ≤? top
-long_fits top low (SplitLong.Minus m) = m ≤? low

@@ -1,11 +1,9 @@
 -- The types of this crate as values and sets of `rules`, and back.
-use Rattle.std.specs.Prelude.{List, [], ◌∷◌, ℕ, get_or, ℤ, pos, negsuc}
+use Rattle.std.specs.Prelude.{List, [], ◌∷◌, ℕ, get_or, ℤ, pos, negsuc, Option, Some, None}
 use Rattle.rules.specs.Characters as rules
 use Rattle.rules.specs.Characters.{letter, digit, space, printable, title, name, only, ◌or◌}
 use Rattle.rules.specs.Items.{Value, gap, missing, num, text, label, latitude, longitude}
 use Rattle.rules.specs.Items as items
-use Rattle.columns.specs.declared.Height.{Height}
-use Rattle.columns.specs.declared.Count.{Count}
 use Rattle.columns.specs.declared.Way.{Way}
 use Rattle.columns.specs.declared.Four.{Four}
 use Rattle.columns.specs.declared.Media.{Media}
@@ -28,31 +26,31 @@ set_of Set.YesNo = only 89 or only 78
 set_of Set.YesNoOrSpace = only 89 or only 78 or space
 
 -- ---- heights
-unfoldable pub height_value : Height → Value
-height_value Height.Missing = missing
-height_value (Height.Mm z) = num z
+unfoldable pub height_value : Option ℤ → Value
+height_value None = missing
+height_value (Some z) = num z
 
 -- what is no height gives Missing
-unfoldable pub height_of : Value → Height
-height_of gap = Height.Missing
-height_of missing = Height.Missing
-height_of (num z) = Height.Mm z
-height_of (text t) = Height.Missing
-height_of (label m d y s t) = Height.Missing
+unfoldable pub height_of : Value → Option ℤ
+height_of gap = None
+height_of missing = None
+height_of (num z) = Some z
+height_of (text t) = None
+height_of (label m d y s t) = None
 
 -- ---- numbers
-unfoldable pub count_value : Count → Value
-count_value Count.Missing = missing
-count_value (Count.Is n) = num (pos n)
+unfoldable pub count_value : Option ℕ → Value
+count_value None = missing
+count_value (Some n) = num (pos n)
 
 -- what is no count gives Missing
-unfoldable pub count_of : Value → Count
-count_of gap = Count.Missing
-count_of missing = Count.Missing
-count_of (num (pos n)) = Count.Is n
-count_of (num (negsuc n)) = Count.Missing
-count_of (text t) = Count.Missing
-count_of (label m d y s t) = Count.Missing
+unfoldable pub count_of : Value → Option ℕ
+count_of gap = None
+count_of missing = None
+count_of (num (pos n)) = Some n
+count_of (num (negsuc n)) = None
+count_of (text t) = None
+count_of (label m d y s t) = None
 
 -- a number that is never missing, as a month; what is none gives 0
 unfoldable pub nat_of : Value → ℕ

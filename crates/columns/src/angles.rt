@@ -4,13 +4,13 @@ ghost use Rattle.rules.specs.Tests.{◌&◌, ◌≤?◌};
 ghost use Rattle.rules.specs.Digits.{put};
 ghost use Rattle.rules.specs.Items.{good, fits, value_of, angle, num, angle_of, dms};
 ghost use Rattle.columns.specs.Types.{way_of, int_of};
-ghost use Rattle.columns.specs.Leaves.{limits_of, digits_up_to, long_fits, written};
+ghost use Rattle.columns.specs.Leaves.{limits_of, digits_up_to, written};
 
 use crate::Way;
 use crate::numbers::{sum, value_of};
 use crate::parts::{byte_at, middle};
 use crate::sets::all_within;
-use crate::signs::{SplitLong, split_long, with_sign_long};
+use crate::signs::with_sign;
 use crate::writers::put_digits;
 
 // How many columns of digits, the largest angle, the largest of the other sign, and the two letters.
@@ -85,23 +85,15 @@ pub fn read_angle(part: &[u8], way: Way) -> i64
     let n = l.columns;
     let m = angle_of(value_of(middle(part, 0, n)));
     let letter = byte_at(part, n);
-    with_sign_long((letter == l.minus) & (m <= l.low), m)
-}
-
-fn long_fits(s: SplitLong, top: u64, low: u64) -> bool
-    ensures { result ≡ long_fits top low s }
-{
-    match s {
-        SplitLong::Plus(m) => m <= top,
-        SplitLong::Minus(m) => m <= low,
-    }
+    with_sign((letter == l.minus) & (m <= l.low), m)
 }
 
 pub fn angle_fits(z: i64, way: Way) -> bool
     ensures { result ≡ fits (angle (way_of way)) (num z) }
 {
     let l = limits_of(way);
-    long_fits(split_long(z), l.top, l.low)
+    let most = if z < 0 { l.low } else { l.top };
+    z.unsigned_abs() <= most
 }
 
 // The digits of m, and the letter in the last column.
@@ -129,8 +121,6 @@ pub fn put_angle(out: &mut [u8], z: i64, way: Way)
     if !angle_fits(z, way) {
         return;
     }
-    match split_long(z) {
-        SplitLong::Plus(m) => put_size(out, m, l.plus),
-        SplitLong::Minus(m) => put_size(out, m, l.minus),
-    }
+    let letter = if z < 0 { l.minus } else { l.plus };
+    put_size(out, z.unsigned_abs(), letter);
 }

@@ -1,14 +1,13 @@
 // Signed numbers, of any width: blanks, an optional minus, then digits up to the last column, at least one; or all blank. A height is one, and a correlation.
-ghost use Rattle.std.specs.Prelude.{◌≡◌, true, false, cond, length, pos};
+ghost use Rattle.std.specs.Prelude.{◌≡◌, true, false, cond, length, pos, Some, None};
 ghost use Rattle.rules.specs.Tests.{◌&◌, ◌≤?◌};
 ghost use Rattle.rules.specs.Items.{good, fits, value_of, height, minus, num};
 ghost use Rattle.columns.specs.Types.{height_of, height_value, int_of};
-ghost use Rattle.columns.specs.Leaves.{between, split_fits, split_columns, height_columns};
+ghost use Rattle.columns.specs.Leaves.{between, height_columns};
 
-use crate::Height;
 use crate::numbers::{has_form, has_room, last_of, sum, wide};
 use crate::sets::all_blank;
-use crate::signs::{SplitLong, split_long, with_sign, with_sign_long};
+use crate::signs::with_sign;
 use crate::writers::{put_blank, put_digits};
 
 // So far from 0 on its side, and no further: from -lo to hi.
@@ -51,18 +50,18 @@ pub fn has_minus(part: &[u8]) -> bool
 }
 
 // Any seven columns fit.
-pub fn read_height(part: &[u8]) -> Height
-    ensures { result ≡ cond (length part.now ≤? 7) (height_of (value_of (height 0 0 0 true) part.now)) Height.Missing }
+pub fn read_height(part: &[u8]) -> Option<i32>
+    ensures { result ≡ cond (length part.now ≤? 7) (height_of (value_of (height 0 0 0 true) part.now)) None }
 {
     if 7 < part.len() {
-        return Height::Missing;
+        return None;
     }
     if all_blank(part) {
-        return Height::Missing; // and not 0
+        return None; // and not 0
     }
     let negative = has_minus(part);
     let v = sum(part);
-    Height::Mm(with_sign(negative, v as u32))
+    Some(with_sign(negative, v) as i32)
 }
 
 // The same where none is missing, of any sixteen columns; blanks give 0.
@@ -73,62 +72,50 @@ pub fn read_signed(part: &[u8]) -> i64
         return 0;
     }
     let negative = has_minus(part);
-    with_sign_long(negative, sum(part))
+    with_sign(negative, sum(part))
 }
 
-fn split_fits(s: SplitLong, width: usize, lo: u32, hi: u32) -> bool
-    ensures { result ≡ split_fits width lo hi s }
+// A minus takes a column of its own.
+pub fn signed_fits(z: i64, width: usize, lo: u32, hi: u32) -> bool
+    ensures { result ≡ fits (height width lo hi false) (num z) }
 {
     if width < 1 {
         return false;
     }
-    match s {
-        SplitLong::Plus(n) => has_room(n, width) & is_between(false, n, lo, hi),
-        SplitLong::Minus(n) => has_room(n, width - 1) & is_between(true, n, lo, hi),
-    }
+    let size = z.unsigned_abs();
+    let room = if z < 0 { width - 1 } else { width };
+    has_room(size, room) & is_between(z < 0, size, lo, hi)
 }
 
-pub fn signed_fits(z: i64, width: usize, lo: u32, hi: u32) -> bool
-    ensures { result ≡ fits (height width lo hi false) (num z) }
-{
-    split_fits(split_long(z), width, lo, hi)
-}
-
-pub fn height_fits(h: Height, width: usize, lo: u32, hi: u32, may: bool) -> bool
+pub fn height_fits(h: Option<i32>, width: usize, lo: u32, hi: u32, may: bool) -> bool
     ensures { result ≡ fits (height width lo hi may) (height_value h) }
 {
     match h {
-        Height::Missing => may,
-        Height::Mm(z) => signed_fits(z as i64, width, lo, hi),
+        None => may,
+        Some(z) => signed_fits(z as i64, width, lo, hi),
     }
 }
 
 // A negative number has its minus in the first column.
-fn put_split(out: &mut [u8], s: SplitLong)
-    ensures { out.new ≡ split_columns (length out.old) s }
+pub fn put_signed(out: &mut [u8], z: i64)
+    ensures { out.new ≡ height_columns (length out.old) (Some z) }
 {
-    match s {
-        SplitLong::Plus(n) => put_digits(out, n),
-        SplitLong::Minus(n) => {
-            if 0 < out.len() {
-                put_digits(&mut out[1..], n);
-                out[0] = b'-';
-            }
-        }
+    let size = z.unsigned_abs();
+    if 0 <= z {
+        put_digits(out, size);
+        return;
+    }
+    if 0 < out.len() {
+        put_digits(&mut out[1..], size);
+        out[0] = b'-';
     }
 }
 
-pub fn put_signed(out: &mut [u8], z: i64)
-    ensures { out.new ≡ height_columns (length out.old) (Height.Mm z) }
-{
-    put_split(out, split_long(z));
-}
-
-pub fn put_height(out: &mut [u8], h: Height)
+pub fn put_height(out: &mut [u8], h: Option<i32>)
     ensures { out.new ≡ height_columns (length out.old) h }
 {
     match h {
-        Height::Missing => put_blank(out),
-        Height::Mm(z) => put_signed(out, z as i64),
+        None => put_blank(out),
+        Some(z) => put_signed(out, z as i64),
     }
 }

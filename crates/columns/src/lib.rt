@@ -12,20 +12,6 @@ pub mod sets;
 pub mod signs;
 pub mod writers;
 
-// A height in millimetres.
-#[derive(Clone, Copy)]
-pub enum Height {
-    Missing,
-    Mm(i32),
-}
-
-// A number.
-#[derive(Clone, Copy)]
-pub enum Count {
-    Missing,
-    Is(u32),
-}
-
 // Which angle.
 #[derive(Clone, Copy)]
 pub enum Way {

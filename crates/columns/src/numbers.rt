@@ -1,12 +1,11 @@
 // Numbers: blanks, then digits up to the last column; and YYYYMM.
-ghost use Rattle.std.specs.Prelude.{◌≡◌, true, false, cond, ◌-◌, ◌≤◌, ◌^◌, suc, length, pos};
+ghost use Rattle.std.specs.Prelude.{◌≡◌, true, false, cond, ◌-◌, ◌≤◌, ◌^◌, suc, length, pos, Some, None};
 ghost use Rattle.rules.specs.Tests.{◌&◌, ◌≤?◌};
 ghost use Rattle.rules.specs.Digits.{val};
 ghost use Rattle.rules.specs.Items.{good, fits, render, value_of, number, month, num};
 ghost use Rattle.columns.specs.Types.{count_of, count_value, nat_of};
 ghost use Rattle.columns.specs.Leaves.{Summed, formed, last_of, written};
 
-use crate::Count;
 use crate::sets::all_within;
 use crate::writers::{put_blank, put_digits};
 
@@ -93,16 +92,16 @@ pub fn good_number(part: &[u8], lo: u32, hi: u32, may: bool) -> bool
 }
 
 // Any eight columns fit.
-pub fn read_count(part: &[u8]) -> Count
-    ensures { result ≡ cond (length part.now ≤? 8) (count_of (value_of (number 0 0 0 true) part.now)) Count.Missing }
+pub fn read_count(part: &[u8]) -> Option<u32>
+    ensures { result ≡ cond (length part.now ≤? 8) (count_of (value_of (number 0 0 0 true) part.now)) None }
 {
     if 8 < part.len() {
-        return Count::Missing;
+        return None;
     }
     if crate::sets::all_blank(part) {
-        return Count::Missing;
+        return None;
     }
-    Count::Is(sum(part) as u32)
+    Some(sum(part) as u32)
 }
 
 fn power(w: usize) -> u64
@@ -135,21 +134,21 @@ pub fn number_fits(n: u64, width: usize, lo: u32, hi: u32) -> bool
     (1 <= width) & has_room(n, width) & ((wide(lo) <= n) & (n <= wide(hi)))
 }
 
-pub fn count_fits(c: Count, width: usize, lo: u32, hi: u32, may: bool) -> bool
+pub fn count_fits(c: Option<u32>, width: usize, lo: u32, hi: u32, may: bool) -> bool
     ensures { result ≡ fits (number width lo hi may) (count_value c) }
 {
     match c {
-        Count::Missing => may,
-        Count::Is(n) => number_fits(wide(n), width, lo, hi),
+        None => may,
+        Some(n) => number_fits(wide(n), width, lo, hi),
     }
 }
 
-pub fn put_count(out: &mut [u8], c: Count)
+pub fn put_count(out: &mut [u8], c: Option<u32>)
     ensures { out.new ≡ render (number (length out.old) 0 0 true) (count_value c) }
 {
     match c {
-        Count::Missing => put_blank(out),
-        Count::Is(n) => put_digits(out, n as u64),
+        None => put_blank(out),
+        Some(n) => put_digits(out, n as u64),
     }
 }
 

@@ -1,30 +1,27 @@
 -- Words taken for values: what its field's type cannot hold is taken for a value that no field holds.
 use mathlib.Core.Path.{◌≡◌, refl, sym, ◌∙◌, ap}
-use mathlib.Core.Bool.{Bool, true, false}
+use mathlib.Core.Bool.{Bool, true, false, cond}
 use mathlib.Core.List.{List, [], ◌∷◌, ◌++◌}
 use Prim.Native.Nat.{ℕ, zero, suc, ◌+◌, ◌≤◌, ◌<◌}
 use native.Mathlib.Omega.{arith}
 use lib.ListN.{length, get_or, drop}
-use lib.IntN.{ℤ, pos, negsuc}
+use lib.IntN.{ℤ, pos, negsuc, nat_abs}
 use lib.Dec.{eqb}
 use mir.Syntax.{w32, w64}
 use mir.Val.{SFits, to_z, of_z}
-use Rattle.rules.specs.Tests.{◌=?◌}
+use mir.ValLaws.{to_z-of_z}
+use Rattle.rules.specs.Tests.{◌=?◌, ◌≤?◌}
 use Rattle.rules.specs.Items.{Value, signed}
 use Rattle.rules.specs.Fields.{Verdict, ok, fault}
 use Rattle.rules.specs.Records.{Meaning}
 use Rattle.rules.specs.Calls.{write_verdict, write_output}
-use Rattle.rules.proofs.Truth.{of≤, of>, of≡, of≢}
+use Rattle.rules.proofs.Truth.{of≤, of>, of≡, of≢, to≤, no≤, cases}
 use Rattle.rules.proofs.Bounds.{write_bounds}
 use Rattle.columns.proofs.Signed.{widened}
-use Rattle.columns.specs.declared.signs.SplitLong.{SplitLong}
-use Rattle.columns.specs.Leaves.{split_long_of}
-use Rattle.columns.specs.declared.Height.{Height}
 use Rattle.columns.specs.declared.Four.{Four}
 use Rattle.columns.specs.declared.Media.{Media}
 use Rattle.kinds.specs.declared.Two.{Two}
 use Rattle.kinds.specs.declared.Three.{Three}
-use Rattle.kinds.specs.declared.Sequence.{Sequence}
 use Rattle.kinds.specs.declared.Project.{Project}
 use Rattle.kinds.specs.declared.Occupation.{Occupation}
 use Rattle.kinds.specs.declared.Measurement.{Measurement}
@@ -43,117 +40,95 @@ use Rattle.kinds.specs.declared.Fault.{Fault}
 use Rattle.kinds.specs.declared.Record.{Record}
 use Rattle.kinds.specs.declared.Record.TheVariants as R
 use Rattle.kinds.specs.declared.Written.{Written}
-use Rattle.kinds.specs.Values.{kind_number, sequence_value, meaning_of, written_of}
+use Rattle.kinds.specs.Values.{kind_number, meaning_of, written_of}
 use Rattle.answers.specs.Answers.{Small, fault_words, answered, touched}
-use Rattle.answers.specs.Given.{word_at, held_or, digit_of, signed_of, is_least, height_of, sequence_of, character_at, number_at, two_at, three_at, four_at, media_at, project_given, occupation_given, measurement_given, point_given, heights_given, network_given, local_given, records_given, record_given, given, sequence_given, written_words, Noted}
+use Rattle.answers.specs.Given.{word_at, held_or, number_of, digit_of, signed_of, is_least, height_of, sequence_of, character_at, number_at, two_at, three_at, four_at, media_at, project_given, occupation_given, measurement_given, point_given, heights_given, network_given, local_given, records_given, record_given, given, sequence_given, written_words, Noted}
 use Rattle.export.proofs.AnswerLaws.{long_answer, long_touched}
+use Rattle.std.specs.Prelude.{Option, Some, None, Result, Ok, Err}
+use Rattle.std.specs.Result.{OkIff}
+use Rattle.std.specs.Result.{result_unwrap_or}
+use Rattle.std.proofs.lemmas.List.{get_or_past}
+use Rattle.std.specs.Int.{FitsUnsignedBits}
+use Prim.Native.Nat.{◌^◌}
+use Rattle.columns.specs.Types.{count_value}
 
 -- ---- one word
-get_d_there : (ws : List ℤ) (i : ℕ) (a b : ℤ) → i < length ws → get_or ws i a ≡ get_or ws i b
-get_d_there [] i a b h = absurd (omega arith)
-get_d_there (w ∷ ws) zero a b h = refl
-get_d_there (w ∷ ws) (suc i) a b h = get_d_there ws i a b (omega arith)
-
-get_d_lacking : (ws : List ℤ) (i : ℕ) (a : ℤ) → length ws ≤ i → get_or ws i a ≡ a
-get_d_lacking [] i a h = refl
-get_d_lacking (w ∷ ws) zero a h = absurd (omega arith)
-get_d_lacking (w ∷ ws) (suc i) a h = get_d_lacking ws i a (omega arith)
+not_less : (n m : ℕ) → (n < m → ⊥) → m ≤ n
+not_less n m h = cases (suc n ≤? m) (λ e. absurd (h (to≤ {m = suc n} {n = m} e))) (λ e. omega (arith, no≤ {m = suc n} {n = m} e))
 
 pub word_lacking : (ws : List ℤ) (i : ℕ) → length ws ≤ i → pos 9_223_372_036_854_775_807 ≡ word_at ws i
 unfolding word_at
-word_lacking ws i h = sym (get_d_lacking ws i (pos 9_223_372_036_854_775_807) h)
+word_lacking ws i h = sym (get_or_past ws i (pos 9_223_372_036_854_775_807) h)
 
-pub word_there : (ws : List ℤ) (i : ℕ) → i < length ws → get_or ws i (pos 0) ≡ word_at ws i
-unfolding word_at
-word_there ws i h = get_d_there ws i (pos 0) (pos 9_223_372_036_854_775_807) h
+-- what its type holds goes into it, and anything else is the other number
+pub held_try : {E : Type 0} (k most other : ℕ) (z : ℤ) (r : Result ℕ E) → 2 ^ k ≡ suc most → OkIff r (FitsUnsignedBits k z) (nat_abs z) → result_unwrap_or r other ≡ held_or most other z
+unfolding held_or
+held_try k most other (pos n) (Ok x) e h = rw (h.1, of≤ {m = n} {n = most} (omega (arith, h.0, e)))
+held_try k most other (pos n) (Err x) e h = let m : most < n = omega (arith, e, not_less n (2 ^ k) h) in rw (of> {m = n} {n = most} m)
+held_try k most other (negsuc n) (Ok x) e h = absurd h.0
+held_try k most other (negsuc n) (Err x) e h = refl
 
-pub split_given : (ws : List ℤ) (i : ℕ) (z : ℤ) (s : SplitLong) → z ≡ word_at ws i → to_z w64 (of_z w64 z) ≡ z → s ≡ split_long_of (to_z w64 (of_z w64 z)) → s ≡ split_long_of (word_at ws i)
-split_given ws i z s e b q = q ∙ ap split_long_of (b ∙ e)
+top_of : (m n : ℕ) → m < n → cond (n ≤? suc m) n (suc m) ≡ suc m
+top_of m n h = cases (n ≤? suc m) (λ e. let q : n ≡ suc m = omega (arith, h, to≤ {m = n} {n = suc m} e) in rw (e, q)) (λ e. rw e)
 
-clash : {A : Type 0} → ◌≡◌ {A = ℕ} 0 1 → A
-clash e = absurd (omega arith)
+-- the largest number of a type may itself be the other one
+pub held_top : (m : ℕ) (z : ℤ) → held_or (suc m) (suc m) z ≡ held_or m (suc m) z
+unfolding held_or
+held_top m (pos n) = cases (n ≤? m) (λ e. rw (e, of≤ {m = n} {n = suc m} (omega (arith, to≤ {m = n} {n = m} e)))) (λ e. rw e (top_of m n (no≤ {m = n} {n = m} e)))
+held_top m (negsuc n) = refl
 
-plus_is : (z : ℤ) (n : ℕ) → split_long_of z ≡ SplitLong.Plus n → z ≡ pos n
-plus_is (pos m) n e = let q : m ≡ n = cc in ap pos q
-plus_is (negsuc m) n e = let y : ◌≡◌ {A = ℕ} 0 1 = cc in clash y
+pub digit_held : (z : ℤ) {d : ℕ} → d ≡ held_or 255 10 z → d ≤ 9 → d ≡ digit_of z
+unfolding held_or
+digit_held (pos n) {d} e h = cases (n ≤? 255)
+    (λ t. let q : d ≡ n = e ∙ rw t in q ∙ rw (of≤ {m = n} {n = 9} (omega (arith, h, q))))
+    (λ t. let q : d ≡ 10 = e ∙ rw t in absurd (omega (arith, h, q)))
+digit_held (negsuc n) e h = e
 
-minus_is : (z : ℤ) (n : ℕ) → split_long_of z ≡ SplitLong.Minus n → (m : ℕ) × (z ≡ negsuc m) × (suc m ≡ n)
-minus_is (pos m) n e = let y : ◌≡◌ {A = ℕ} 0 1 = cc in clash y
-minus_is (negsuc m) n e = let q : suc m ≡ n = cc in (m, refl, q)
+pub digit_other : (z : ℤ) {d : ℕ} → d ≡ held_or 255 10 z → 9 < d → 10 ≡ digit_of z
+unfolding held_or
+digit_other (pos n) {d} e h = cases (n ≤? 255)
+    (λ t. let q : d ≡ n = e ∙ rw t in rw (of> {m = n} {n = 9} (omega (arith, h, q))))
+    (λ t. rw (of> {m = n} {n = 9} (omega (arith, no≤ {m = n} {n = 255} t))))
+digit_other (negsuc n) e h = refl
 
-depth_of : (z : ℤ) (n m : ℕ) → z ≡ negsuc m → suc m ≡ n → n ≤ 99_999_999 → signed true n ≡ signed_of z
-unfolding signed_of signed
-depth_of z n m p q h = rw (p, ← q, of≤ {m = suc m} {n = 99_999_999} (omega arith))
+-- a signed number: what is no further from zero than 99,999,999 fits 32 bits
+module _ {y : ℤ} {n : ℕ} (e : n ≡ nat_abs y) where
+  pub millimetres_narrow : (z : ℤ) → y ≡ z → n ≤ 99_999_999 → SFits w32 y
+  millimetres_narrow (pos m) q h = let k : n ≡ m = e ∙ ap nat_abs q in rw q (record { sfits = omega (arith, h, k) })
+  millimetres_narrow (negsuc m) q h = let k : n ≡ suc m = e ∙ ap nat_abs q in rw q (record { sfits = omega (arith, h, k) })
 
-least_of : (z : ℤ) (n m : ℕ) → z ≡ negsuc m → suc m ≡ n → eqb n 9_223_372_036_854_775_808 ≡ is_least z
-unfolding is_least ◌=?◌
-least_of z n m p q = rw (p, ← q)
-
-module _ (z : ℤ) (s : SplitLong) (e : s ≡ split_long_of z) (n : ℕ) where
-  at_least_0 : s ≡ SplitLong.Plus n → z ≡ pos n
-  at_least_0 p = plus_is z n (sym e ∙ p)
-
-  below_0 : s ≡ SplitLong.Minus n → (m : ℕ) × (z ≡ negsuc m) × (suc m ≡ n)
-  below_0 p = minus_is z n (sym e ∙ p)
-
-  pub held_fits : (most other : ℕ) → s ≡ SplitLong.Plus n → n ≤ most → n ≡ held_or most other z
-  unfolding held_or
-  held_fits most other p h = rw (at_least_0 p, of≤ {m = n} {n = most} h)
-
-  pub held_large : (most other : ℕ) → s ≡ SplitLong.Plus n → most < n → other ≡ held_or most other z
-  unfolding held_or
-  held_large most other p h = rw (at_least_0 p, of> {m = n} {n = most} h)
-
-  pub held_below : (most other : ℕ) → s ≡ SplitLong.Minus n → other ≡ held_or most other z
-  unfolding held_or
-  held_below most other p = rw (below_0 p).1
-
-  pub millimetres_fit : s ≡ SplitLong.Plus n → n ≤ 99_999_999 → (r : ℤ) → r ≡ signed false n → r ≡ signed_of z
-  unfolding signed_of signed
-  millimetres_fit p h r q = q ∙ rw (at_least_0 p, of≤ {m = n} {n = 99_999_999} h)
-
-  pub millimetres_large : s ≡ SplitLong.Plus n → 99_999_999 < n → pos 100_000_000 ≡ signed_of z
+  pub millimetres_fit : (z : ℤ) → y ≡ z → n ≤ 99_999_999 → y ≡ signed_of z
   unfolding signed_of
-  millimetres_large p h = rw (at_least_0 p, of> {m = n} {n = 99_999_999} h)
+  millimetres_fit (pos m) q h = let k : n ≡ m = e ∙ ap nat_abs q in q ∙ rw (of≤ {m = m} {n = 99_999_999} (omega (arith, h, k)))
+  millimetres_fit (negsuc m) q h = let k : n ≡ suc m = e ∙ ap nat_abs q in q ∙ rw (of≤ {m = suc m} {n = 99_999_999} (omega (arith, h, k)))
 
-  pub depths_fit : s ≡ SplitLong.Minus n → n ≤ 99_999_999 → (r : ℤ) → r ≡ signed true n → r ≡ signed_of z
-  depths_fit p h r q = let b = below_0 p in q ∙ depth_of z n b.0 b.1 b.2 h
-
-  pub depths_large : s ≡ SplitLong.Minus n → 99_999_999 < n → pos 100_000_000 ≡ signed_of z
+  pub millimetres_large : (z : ℤ) → y ≡ z → 99_999_999 < n → pos 100_000_000 ≡ signed_of z
   unfolding signed_of
-  depths_large p h = let b = below_0 p in rw (b.1, of> {m = suc b.0} {n = 99_999_999} (omega (arith, b.2)))
+  millimetres_large (pos m) q h = let k : n ≡ m = e ∙ ap nat_abs q in rw (of> {m = m} {n = 99_999_999} (omega (arith, h, k)))
+  millimetres_large (negsuc m) q h = let k : n ≡ suc m = e ∙ ap nat_abs q in rw (of> {m = suc m} {n = 99_999_999} (omega (arith, h, k)))
 
-  pub not_least : s ≡ SplitLong.Plus n → false ≡ is_least z
-  unfolding is_least
-  not_least p = rw (at_least_0 p)
+-- the least word, and -1: as the code compares them, by their bits
+module _ (z : ℤ) (f : SFits w64 z) where
+  bits_are : (n : ℕ) → of_z w64 z ≡ n → z ≡ to_z w64 n
+  bits_are n e = sym (to_z-of_z w64 z f) ∙ ap (to_z w64) e
 
-  pub maybe_least : s ≡ SplitLong.Minus n → eqb n 9_223_372_036_854_775_808 ≡ is_least z
-  maybe_least p = let b = below_0 p in least_of z n b.0 b.1 b.2
+  pub height_none : of_z w64 z ≡ 9_223_372_036_854_775_808 → None ≡ height_of z
+  unfolding height_of is_least ◌=?◌
+  height_none e = ap height_of (sym (bits_are _ e))
 
-  pub sequence_fits : s ≡ SplitLong.Plus n → n ≤ 4_294_967_294 → Sequence.Number n ≡ sequence_of z
-  unfolding sequence_of held_or
-  sequence_fits p h = rw (at_least_0 p, of≤ {m = n} {n = 4_294_967_294} h)
+  pub sequence_none : of_z w64 z ≡ 18_446_744_073_709_551_615 → None ≡ sequence_of z
+  unfolding sequence_of ◌=?◌
+  sequence_none e = ap sequence_of (sym (bits_are _ e))
 
-  pub sequence_large : s ≡ SplitLong.Plus n → 4_294_967_294 < n → Sequence.Number 4_294_967_295 ≡ sequence_of z
-  unfolding sequence_of held_or
-  sequence_large p h = rw (at_least_0 p, of> {m = n} {n = 4_294_967_294} h)
+pub height-some : (z : ℤ) → (of_z w64 z ≡ 9_223_372_036_854_775_808 → ⊥) → {m : ℤ} → m ≡ signed_of z → Some m ≡ height_of z
+unfolding height_of is_least
+height-some (pos n) h e = rw e
+height-some (negsuc n) h e = rw (e, of≢ {m = suc n} {n = 9_223_372_036_854_775_808} (λ q. let k : n ≡ 9_223_372_036_854_775_807 = omega (arith, q) in h (ap (λ k. of_z w64 (negsuc k)) k)))
 
-  pub sequence_none : s ≡ SplitLong.Minus n → n ≡ 1 → Sequence.Missing ≡ sequence_of z
-  unfolding sequence_of
-  sequence_none p h = let b = below_0 p in rw (b.1, of≡ {m = suc b.0} {n = 1} (b.2 ∙ h))
-
-  pub sequence_below : s ≡ SplitLong.Minus n → (n ≡ 1 → ⊥) → Sequence.Number 4_294_967_295 ≡ sequence_of z
-  unfolding sequence_of
-  sequence_below p h = let b = below_0 p in rw (b.1, of≢ {m = suc b.0} {n = 1} (λ y. h (sym b.2 ∙ y)))
-
-module _ (z : ℤ) (t : Bool) (e : t ≡ is_least z) where
-  pub height_none : t ≡ true → Height.Missing ≡ height_of z
-  unfolding height_of
-  height_none h = rw (sym e ∙ h)
-
-  pub height-some : t ≡ false → (m : ℤ) → m ≡ signed_of z → Height.Mm m ≡ height_of z
-  unfolding height_of
-  height-some h m q = rw (sym e ∙ h, q)
+pub sequence_some : (z : ℤ) → (of_z w64 z ≡ 18_446_744_073_709_551_615 → ⊥) → {n : ℕ} → n ≡ number_of z → Some n ≡ sequence_of z
+unfolding sequence_of held_or
+sequence_some (pos n) h e = rw e
+sequence_some (negsuc n) h e = rw (e, of≢ {m = suc n} {n = 1} (λ q. let k : n ≡ 0 = omega (arith, q) in h (ap (λ k. of_z w64 (negsuc k)) k)))
 
 past : (k : ℕ) (rs : List Record) (d : Record) → length rs ≤ k → get_or rs k d ≡ d
 past k [] d h = refl
@@ -201,7 +176,7 @@ pub point-given : (ws : List ℤ) (a : ℕ) (x : ℤ) (y : ℤ) (u : Two) (r : P
 unfolding point_given
 point-given ws a x y u r h0 h1 h2 h3 e = e ∙ rw (h0, h1, h2, h3)
 
-pub heights-given : (ws : List ℤ) (a : ℕ) (b : Height) (d : ℕ) (f : Two) (g : ℕ) (i : Two) (j : Height) (k : ℕ) (l : Height) (m : ℕ) (n : ℕ) (r : Heights) → a ≡ number_at ws 2 → b ≡ height_of (word_at ws 3) → d ≡ character_at ws 4 → f ≡ two_at ws 5 → g ≡ character_at ws 7 → i ≡ two_at ws 8 → j ≡ height_of (word_at ws 10) → k ≡ character_at ws 11 → l ≡ height_of (word_at ws 12) → m ≡ character_at ws 13 → n ≡ character_at ws 14
+pub heights-given : (ws : List ℤ) (a : ℕ) (b : Option ℤ) (d : ℕ) (f : Two) (g : ℕ) (i : Two) (j : Option ℤ) (k : ℕ) (l : Option ℤ) (m : ℕ) (n : ℕ) (r : Heights) → a ≡ number_at ws 2 → b ≡ height_of (word_at ws 3) → d ≡ character_at ws 4 → f ≡ two_at ws 5 → g ≡ character_at ws 7 → i ≡ two_at ws 8 → j ≡ height_of (word_at ws 10) → k ≡ character_at ws 11 → l ≡ height_of (word_at ws 12) → m ≡ character_at ws 13 → n ≡ character_at ws 14
     → r ≡ record { station = a; orthometric = b; code = d; class = f; indicator = g; datum = i; geoid = j; geoidcode = k; ellipsoid = l; ellipsoidcode = m; ellipsoiddatum = n } → r ≡ heights_given ws
 unfolding heights_given
 heights-given ws a b d f g i j k l m n r h0 h1 h2 h3 h4 h5 h6 h7 h8 h9 h10 e = e ∙ rw (h0, h1, h2, h3, h4, h5, h6, h7, h8, h9, h10)
@@ -293,7 +268,7 @@ noted_small w f t e = t.small f e
 
 noted_of : (v : Verdict) → ((n c : ℕ) → v ≡ fault n c → c ≤ 80) → (f : Fault) → written_of v ≡ Written.Refused f → Small f
 unfolding written_of
-noted_of ok h f e = let y : ◌≡◌ {A = ℕ} 0 1 = cc in clash y
+noted_of ok h f e = let y : ◌≡◌ {A = ℕ} 0 1 = cc in absurd (omega arith)
 noted_of (fault n c) h f e =
     let x : 0 ≡ f.«record» = cc in
     let y : c ≡ f.column = cc in
@@ -310,11 +285,11 @@ pub refused-words : (w : Written) (f : Fault) (u : List ℕ) → w ≡ Written.R
 unfolding written_words
 refused-words w f u e q = q ∙ rw e
 
-module _ (ws : List ℤ) (a b c old : List ℕ) (r : Record) (s : Sequence) (h : 3 ≤ length old) (p : s ≡ sequence_given ws) (q : r ≡ given ws) where
-  pub write_answer : (room : ℕ) (v : Written) (u : List ℕ) → v ≡ written_of (write_verdict room (kind_number r) (sequence_value s) (meaning_of r a b c)) → u ≡ written_words v
-      → u ++ drop 3 old ≡ answered 3 (written_words (written_of (write_verdict room (kind_number (given ws)) (sequence_value (sequence_given ws)) (meaning_of (given ws) a b c)))) old
+module _ (ws : List ℤ) (a b c old : List ℕ) (r : Record) (s : Option ℕ) (h : 3 ≤ length old) (p : s ≡ sequence_given ws) (q : r ≡ given ws) where
+  pub write_answer : (room : ℕ) (v : Written) (u : List ℕ) → v ≡ written_of (write_verdict room (kind_number r) (count_value s) (meaning_of r a b c)) → u ≡ written_words v
+      → u ++ drop 3 old ≡ answered 3 (written_words (written_of (write_verdict room (kind_number (given ws)) (count_value (sequence_given ws)) (meaning_of (given ws) a b c)))) old
   write_answer room v u e z = long_answer 3 old h u _ (z ∙ ap written_words (e ∙ rw (p, q)))
 
-  pub write_left : (o u : List ℕ) → u ≡ write_output (kind_number r) (sequence_value s) (meaning_of r a b c) o
-      → u ≡ touched 3 old (write_output (kind_number (given ws)) (sequence_value (sequence_given ws)) (meaning_of (given ws) a b c) o) o
+  pub write_left : (o u : List ℕ) → u ≡ write_output (kind_number r) (count_value s) (meaning_of r a b c) o
+      → u ≡ touched 3 old (write_output (kind_number (given ws)) (count_value (sequence_given ws)) (meaning_of (given ws) a b c) o) o
   write_left o u e = long_touched 3 old h u _ o (e ∙ rw (p, q))

@@ -26,7 +26,6 @@ use Rattle.rules.proofs.Bounds.{Bounded, answer_bounded, form_bounded, reference
 use Rattle.kinds.specs.declared.Checked.{Checked}
 use Rattle.kinds.specs.declared.Fault.{Fault}
 use Rattle.columns.specs.Types.{nat_of}
-use Rattle.kinds.specs.declared.Sequence.{Sequence}
 use Rattle.kinds.specs.declared.Record.{Record}
 use Rattle.kinds.specs.declared.Reading as kinds
 use Rattle.kinds.specs.Values.{checked_of, fault_of, record_from, record_of, reading_of}
@@ -39,6 +38,7 @@ use Rattle.pulling.specs.Promise.{pulled_of}
 use Rattle.pulling.proofs.PullDemands.{demand_1_pull}
 use Rattle.answers.specs.Answers.{Small, Counted}
 use Rattle.answers.specs.Words.{deviations_of, in_range, Told}
+use Rattle.std.specs.Prelude.{Option}
 
 -- ---- form, references and rewrite
 fourteen : (v : Result) (ms : List Meaning) → length (answer v ms).counts ≡ 14
@@ -148,7 +148,7 @@ record-ranged : (m : Meaning) → meant chapter4 m ≡ true → in_range (record
 unfolding meant told known record_of layout
 record-ranged m h = ranged m.code m.values (kind_of m.code) (omega (arith, to≤ (both h).0)) (to≡ (both (both h).1).0) (both (both h).1).1
 
-held_as : (n : ℕ) (l : List ℕ) (v : Verdict) → v ≡ read_line chapter4 l → (s : Sequence) (w : Record) → reading_of (read_as n l v) ≡ kinds.Reading.Values s w → in_range w ≡ true
+held_as : (n : ℕ) (l : List ℕ) (v : Verdict) → v ≡ read_line chapter4 l → (s : Option ℕ) (w : Record) → reading_of (read_as n l v) ≡ kinds.Reading.Values s w → in_range w ≡ true
 unfolding read_as reading_of
 held_as n l ok e s w z =
     let same : record_of (meaning chapter4 l) ≡ w = cc in
@@ -156,14 +156,14 @@ held_as n l ok e s w z =
     subst (λ r. in_range r ≡ true) same (record-ranged (meaning chapter4 l) (line_meant chapter4 l (both (sym (read_line_splits chapter4 l) ∙ reads)).0))
 held_as n l (fault a b) e s w z = let x : ◌≡◌ {A = ℕ} 0 1 = cc in absurd (omega arith)
 
-held_of : (f : List ℕ) (r : ℕ) (s : Sequence) (w : Record) → reading_of (read_of f r) ≡ kinds.Reading.Values s w → in_range w ≡ true
+held_of : (f : List ℕ) (r : ℕ) (s : Option ℕ) (w : Record) → reading_of (read_of f r) ≡ kinds.Reading.Values s w → in_range w ≡ true
 unfolding read_of
 held_of f r s w z =
     cases (within 1 99_999 r & r ≤? begun f)
     (λ h. held_as r (line_at f (r - 1)) (read_line chapter4 (line_at f (r - 1))) refl s w (rw h at z))
     (λ h. none s w (rw h at z))
   where
-    none : (s : Sequence) (w : Record) → reading_of (unread 13 r 0) ≡ kinds.Reading.Values s w → in_range w ≡ true
+    none : (s : Option ℕ) (w : Record) → reading_of (unread 13 r 0) ≡ kinds.Reading.Values s w → in_range w ≡ true
     none s w z = unfold reading_of in let x : ◌≡◌ {A = ℕ} 0 1 = cc in absurd (omega arith)
 
 pub read_told : (f : List ℕ) (r : ℕ) (x : kinds.Reading) → r < 2 ^ 32 → x ≡ reading_of (read_of f r) → Told x

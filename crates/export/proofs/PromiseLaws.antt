@@ -7,13 +7,12 @@ use lib.IntN.{ℤ}
 use Rattle.rules.specs.Calls.{form_answer, references_answer, references_table, rewrite_answer, rewrite_table, rewrite_output, read_of, field_of, write_verdict, write_output}
 use Rattle.rules.specs.Padding.{pad_answer, pad_output}
 use Rattle.rules.specs.Pulling.{pull_answer, pull_output, pull_faults}
-use Rattle.kinds.specs.declared.Sequence.{Sequence}
 use Rattle.kinds.specs.declared.Record.{Record}
 use Rattle.kinds.specs.declared.Fault.{Fault}
 use Rattle.kinds.specs.declared.Checked.{Checked}
 use Rattle.kinds.specs.declared.Reading.{Reading}
 use Rattle.kinds.specs.declared.Written.{Written}
-use Rattle.kinds.specs.Values.{kind_number, sequence_value, meaning_of, checked_of, fault_of, reading_of, written_of}
+use Rattle.kinds.specs.Values.{kind_number, meaning_of, checked_of, fault_of, reading_of, written_of}
 use Rattle.padding.specs.declared.Padded.{Padded}
 use Rattle.padding.specs.Promise.{padded_of}
 use Rattle.pulling.specs.declared.Pulled.{Pulled}
@@ -25,6 +24,8 @@ use Rattle.answers.specs.Promise.{Forms, Refers, Rewrites, Pads, Pulls, Reads, F
 use Rattle.export.proofs.AnswerLaws.{short_answer, long_answer, untouched, long_touched, checked_answer, field_none, field_some}
 use Rattle.export.proofs.WordLaws.{read_answer}
 use Rattle.export.proofs.GivenLaws.{write_answer, write_left}
+use Rattle.std.specs.Prelude.{Option}
+use Rattle.columns.specs.Types.{count_value}
 
 -- ---- too short an answer
 module _ (a : List ℕ) where
@@ -85,9 +86,9 @@ module _ (f : List ℕ) (r c : ℕ) (a : List ℕ) (h : 2 ≤ length a) (p : Lis
   pub some_found : (length p ≡ 0 → ⊥) → Finds f r c a (set (set a 0 (81 * (r - 1) + (c - 1))) 1 (length p))
   some_found z = record { answer = field_some f r c a h p e z }
 
-pub long_write : (o : List ℕ) (ws : List ℤ) (x y z a : List ℕ) → 3 ≤ length a → (s : Sequence) → s ≡ sequence_given ws → (r : Record) → r ≡ given ws
-    → (v : Written) → v ≡ written_of (write_verdict (length o) (kind_number r) (sequence_value s) (meaning_of r x y z))
-    → (p : List ℕ) → p ≡ write_output (kind_number r) (sequence_value s) (meaning_of r x y z) o
+pub long_write : (o : List ℕ) (ws : List ℤ) (x y z a : List ℕ) → 3 ≤ length a → (s : Option ℕ) → s ≡ sequence_given ws → (r : Record) → r ≡ given ws
+    → (v : Written) → v ≡ written_of (write_verdict (length o) (kind_number r) (count_value s) (meaning_of r x y z))
+    → (p : List ℕ) → p ≡ write_output (kind_number r) (count_value s) (meaning_of r x y z) o
     → (w : List ℕ) → w ≡ written_words v → Writes o ws x y z a p (w ++ drop 3 a)
 unfolding words_verdict words_output
 long_write o ws x y z a h s i r j v k p l w e =

@@ -18,9 +18,9 @@ use Rattle.rules.specs.Chapter4.{chapter4}
 use Rattle.rules.proofs.Truth.{both, to≤, to≡, no≤, of>, of≤, cases, not_true, all_get_d, and_false}
 use Rattle.rules.proofs.FieldLaws.{⨾_assoc}
 use Rattle.rules.proofs.Chapter4Laws.{layout-covers}
-use Rattle.columns.specs.Types.{height_value, media_value, four_of}
+use Rattle.columns.specs.Types.{height_value, media_value, four_of, count_value}
 use Rattle.kinds.specs.declared.Record.TheVariants as R
-use Rattle.kinds.specs.Values.{two_text, three_text, kind_number, code_of, values_of, meaning_of, sequence_value, written_of}
+use Rattle.kinds.specs.Values.{two_text, three_text, kind_number, code_of, values_of, meaning_of, written_of}
 use Rattle.kinds.proofs.ValueLaws.{code_kind}
 use Rattle.kinds.proofs.TableLaws.{each_kind}
 use Rattle.answers.specs.Answers.{answered, touched, fault_words}
@@ -246,8 +246,8 @@ module _ (room : ℕ) (ws : List ℤ) (x y z : List ℕ) where
   abbrev whole : Meaning
   whole = meaning_of (words.given ws) x y z
 
-  sequence_other : (z : ℤ) → holds_sequence z ≡ false → sequence_value (sequence_of z) ≡ num (pos 4_294_967_295)
-  unfolding holds_sequence sequence_of sequence_value held_or
+  sequence_other : (z : ℤ) → holds_sequence z ≡ false → count_value (sequence_of z) ≡ num (pos 4_294_967_295)
+  unfolding holds_sequence sequence_of count_value held_or
   sequence_other (pos n) h = rw h
   sequence_other (negsuc n) h = rw h
 

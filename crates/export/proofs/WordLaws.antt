@@ -14,12 +14,10 @@ use mir.ValLaws.{to_z_pos}
 use Rattle.columns.proofs.Signed.{widened}
 use Rattle.rules.specs.Tests.{all, ◌≤?◌}
 use Rattle.rules.proofs.Truth.{both, to≤}
-use Rattle.columns.specs.declared.Height.{Height}
 use Rattle.columns.specs.declared.Four.{Four}
 use Rattle.columns.specs.declared.Media.{Media}
 use Rattle.kinds.specs.declared.Two.{Two}
 use Rattle.kinds.specs.declared.Three.{Three}
-use Rattle.kinds.specs.declared.Sequence.{Sequence}
 use Rattle.kinds.specs.declared.Project.{Project}
 use Rattle.kinds.specs.declared.Occupation.{Occupation}
 use Rattle.kinds.specs.declared.Measurement.{Measurement}
@@ -42,6 +40,7 @@ use Rattle.kinds.specs.Values.{kind_number}
 use Rattle.answers.specs.Words.{height_word, sequence_word, two_words, three_words, four_words, media_words, project_words, occupation_words, measurement_words, point_words, heights_first, heights_words, network_words, local_words, value_words, padded, read_words, deviations_of, in_range, Told, laid}
 use Rattle.answers.specs.Answers.{Small, answered}
 use Rattle.export.proofs.AnswerLaws.{long_answer}
+use Rattle.std.specs.Prelude.{Option, Some, None}
 
 -- ---- one word
 pub put_past : (w : List ℤ) (at : ℕ) (z : ℤ) → length w ≤ at → w ≡ set w at z
@@ -50,23 +49,23 @@ put_past w at z h = sym (set_out w at z h)
 pub put_word : (w : List ℤ) (at n : ℕ) → n < 2 ^ 32 → set w at (to_z w64 n) ≡ set w at (pos n)
 put_word w at n h = ap (set w at) (to_z_pos w64 n (omega arith))
 
-pub missing-word : (h : Height) → h ≡ Height.Missing → negsuc 9_223_372_036_854_775_807 ≡ height_word h
+pub missing-word : (h : Option ℤ) → h ≡ None → negsuc 9_223_372_036_854_775_807 ≡ height_word h
 unfolding height_word
 missing-word h e = rw e
 
-pub height-word : (h : Height) (z : ℤ) → SFits w32 z → h ≡ Height.Mm z → to_z w64 (of_z w64 (to_z w32 (of_z w32 z))) ≡ height_word h
+pub height-word : (h : Option ℤ) (z : ℤ) → SFits w32 z → h ≡ Some z → to_z w64 (of_z w64 (to_z w32 (of_z w32 z))) ≡ height_word h
 unfolding height_word
 height-word h z f e = rw e (widened z f)
 
-pub height-put : (h : Height) (z : ℤ) (at : ℕ) (w u : List ℤ) → z ≡ height_word h → to_z w64 (of_z w64 z) ≡ z → u ≡ set w at (to_z w64 (of_z w64 z)) → u ≡ set w at (height_word h)
+pub height-put : (h : Option ℤ) (z : ℤ) (at : ℕ) (w u : List ℤ) → z ≡ height_word h → to_z w64 (of_z w64 z) ≡ z → u ≡ set w at (to_z w64 (of_z w64 z)) → u ≡ set w at (height_word h)
 height-put h z at w u e b q = q ∙ rw (b, e)
 
-module _ (s : Sequence) (at : ℕ) (w u : List ℤ) where
-  pub unnumbered_word : s ≡ Sequence.Missing → u ≡ set w at (negsuc 0) → u ≡ set w at (sequence_word s)
+module _ (s : Option ℕ) (at : ℕ) (w u : List ℤ) where
+  pub unnumbered_word : s ≡ None → u ≡ set w at (negsuc 0) → u ≡ set w at (sequence_word s)
   unfolding sequence_word
   unnumbered_word e q = q ∙ rw e
 
-  pub numbered-word : (n : ℕ) → s ≡ Sequence.Number n → u ≡ set w at (pos n) → u ≡ set w at (sequence_word s)
+  pub numbered-word : (n : ℕ) → s ≡ Some n → u ≡ set w at (pos n) → u ≡ set w at (sequence_word s)
   unfolding sequence_word
   numbered-word n e q = q ∙ rw e
 
@@ -121,7 +120,7 @@ module _ (w₀ w₁ w₂ : List ℤ) where
   unfolding laid occupation_words three_words media_words four_words
   occupation-laid r w₃ w₄ w₅ p q s t v = rw (v, t, s, q, p)
 
-  pub measurement-laid : (r : Measurement) (z : ℤ) (w₃ w₄ : List ℤ) → w₁ ≡ set w₀ 5 (pos r.station) → w₂ ≡ set w₁ 6 (pos r.date) → w₃ ≡ set w₂ 7 (pos r.time) → w₄ ≡ set w₃ 8 (height_word (Height.Mm z))
+  pub measurement-laid : (r : Measurement) (z : ℤ) (w₃ w₄ : List ℤ) → w₁ ≡ set w₀ 5 (pos r.station) → w₂ ≡ set w₁ 6 (pos r.date) → w₃ ≡ set w₂ 7 (pos r.time) → w₄ ≡ set w₃ 8 (height_word (Some z))
       → z ≡ r.height → w₄ ≡ laid 5 (measurement_words r) w₀
   unfolding laid measurement_words height_word
   measurement-laid r z w₃ w₄ p q s t e = rw (t, s, q, p, e)
@@ -160,7 +159,7 @@ module _ (w₀ w₁ w₂ : List ℤ) where
   unfolding laid
   refusal-laid f w₃ w₄ p q s t = rw (t, s, q, p)
 
-  pub values-laid : (s : Sequence) (r : Record) (k : ℕ) (w₃ : List ℤ) → k ≡ kind_number r → w₁ ≡ set w₀ 3 (pos k) → w₂ ≡ set w₁ 4 (sequence_word s) → w₃ ≡ laid 5 (value_words r) w₂
+  pub values-laid : (s : Option ℕ) (r : Record) (k : ℕ) (w₃ : List ℤ) → k ≡ kind_number r → w₁ ≡ set w₀ 3 (pos k) → w₂ ≡ set w₁ 4 (sequence_word s) → w₃ ≡ laid 5 (value_words r) w₂
       → w₃ ≡ laid 3 (pos (kind_number r) ∷ sequence_word s ∷ value_words r) w₀
   unfolding laid
   values-laid s r k w₃ e p q t = rw (t, q, p, e)
@@ -240,7 +239,7 @@ module _ (what : Record) (w : List ℤ) where
   record-comment r e = rw e
 
 -- ---- the whole answer
-pub words-read : (s : Sequence) (r : Record) → laid 3 (pos (kind_number r) ∷ sequence_word s ∷ value_words r) (replicate 32 (pos 0)) ≡ read_words (Reading.Values s r)
+pub words-read : (s : Option ℕ) (r : Record) → laid 3 (pos (kind_number r) ∷ sequence_word s ∷ value_words r) (replicate 32 (pos 0)) ≡ read_words (Reading.Values s r)
 unfolding laid read_words padded value_words project_words occupation_words measurement_words point_words heights_words heights_first network_words local_words two_words three_words four_words media_words
 words-read s (R.Job r) = refl
 words-read s (R.Title r) = refl
@@ -258,7 +257,7 @@ words-read s (R.Local r) = refl
 words-read s (R.Factor r) = refl
 
 module _ (x : Reading) (w u : List ℤ) (zeros : w ≡ replicate 32 (pos 0)) where
-  pub answer_read : (s : Sequence) (r : Record) → x ≡ Reading.Values s r → u ≡ laid 3 (pos (kind_number r) ∷ sequence_word s ∷ value_words r) w → u ≡ read_words x
+  pub answer_read : (s : Option ℕ) (r : Record) → x ≡ Reading.Values s r → u ≡ laid 3 (pos (kind_number r) ∷ sequence_word s ∷ value_words r) w → u ≡ read_words x
   answer_read s r e q = q ∙ rw (zeros, e) (words-read s r)
 
   pub answer_unread : (f : Fault) → x ≡ Reading.Refused f → u ≡ laid 0 (pos f.number ∷ pos f.«record» ∷ pos f.column ∷ negsuc 0 ∷ []) w → u ≡ read_words x
@@ -268,7 +267,7 @@ module _ (x : Reading) (w u : List ℤ) (zeros : w ≡ replicate 32 (pos 0)) whe
 pub told_small : (x : Reading) (f : Fault) → Told x → x ≡ Reading.Refused f → Small f
 told_small x f t e = t.small f e
 
-pub told_held : (x : Reading) (s : Sequence) (r : Record) → Told x → x ≡ Reading.Values s r → in_range r ≡ true
+pub told_held : (x : Reading) (s : Option ℕ) (r : Record) → Told x → x ≡ Reading.Values s r → in_range r ≡ true
 told_held x s r t e = t.held s r e
 
 pub read_answer : (old : List ℤ) → 32 ≤ length old → (v w : Reading) → v ≡ w → (u : List ℤ) → u ≡ read_words v → u ++ drop 32 old ≡ answered 32 (read_words w) old

@@ -1,92 +1,49 @@
 // A record and a sequence number out of words. What the type of a field cannot hold, and a word that is lacking, is taken for a
 // value that no field holds, so that write refuses it at the field's own column and after any fault further left.
-ghost use Rattle.std.specs.Prelude.{◌≡◌, ◌<◌, ◌^◌, ◌+◌};
-ghost use Rattle.rules.specs.Items.{signed};
-ghost use Rattle.columns.specs.Leaves.{split_long_of};
-ghost use Rattle.answers.specs.Given.{word_at, digit_of, signed_of, is_least, height_of, character_at, number_at, two_at, three_at, four_at, media_at, project_given, occupation_given, measurement_given, point_given, heights_given, network_given, local_given, record_given, given, sequence_given};
+ghost use Rattle.std.specs.Prelude.{◌≡◌, ◌<◌};
+ghost use Rattle.answers.specs.Given.{word_at, digit_of, signed_of, height_of, character_at, number_at, two_at, three_at, four_at, media_at, project_given, occupation_given, measurement_given, point_given, heights_given, network_given, local_given, record_given, given, sequence_given};
 
-use columns::signs::{SplitLong, split_long};
-use columns::{Four, Height, Media};
+use columns::{Four, Media};
 use kinds::{
     Antenna, Comment, Continuation, Factor, Heights, Instrument, Job, Local, Measurement, Network,
-    Occupation, Point, Project, Record, Sequence, Three, Title, Two,
+    Occupation, Point, Project, Record, Three, Title, Two,
 };
 
 // A word, and the largest one where it is lacking.
 fn word_at(values: &[i64], i: usize) -> i64
     ensures { result ≡ word_at values.now i }
 {
-    if values.len() <= i {
-        return i64::MAX;
-    }
-    values[i]
-}
-
-fn split_at(values: &[i64], i: usize) -> SplitLong
-    ensures { result ≡ split_long_of (word_at values.now i) }
-{
-    split_long(word_at(values, i))
+    values.get(i).copied().unwrap_or(i64::MAX)
 }
 
 fn number_at(values: &[i64], i: usize) -> u32
     ensures { result ≡ number_at values.now i }
 {
-    match split_at(values, i) {
-        SplitLong::Plus(n) => {
-            if n <= 4_294_967_294 {
-                n as u32
-            } else {
-                4_294_967_295
-            }
-        }
-        SplitLong::Minus(n) => 4_294_967_295,
-    }
+    u32::try_from(word_at(values, i)).unwrap_or(u32::MAX)
 }
 
 fn character_at(values: &[i64], i: usize) -> u8
     ensures { result ≡ character_at values.now i }
 {
-    match split_at(values, i) {
-        SplitLong::Plus(n) => { if n <= 255 { n as u8 } else { 0 } }
-        SplitLong::Minus(n) => 0,
-    }
+    u8::try_from(word_at(values, i)).unwrap_or(0)
 }
 
 fn digit_at(values: &[i64], i: usize) -> u8
     ensures { result ≡ digit_of (word_at values.now i) }
 {
-    match split_at(values, i) {
-        SplitLong::Plus(n) => { if n <= 9 { n as u8 } else { 10 } }
-        SplitLong::Minus(n) => 10,
-    }
-}
-
-fn give_sign(negative: bool, v: u32) -> i32
-    requires { v < 2 ^ 31 }
-    ensures { result ≡ signed negative v }
-{
-    if negative { -(v as i32) } else { v as i32 }
+    let digit = u8::try_from(word_at(values, i)).unwrap_or(10);
+    if digit <= 9 { digit } else { 10 }
 }
 
 // A height in millimetres.
 fn signed_at(values: &[i64], i: usize) -> i32
     ensures { result ≡ signed_of (word_at values.now i) }
 {
-    match split_at(values, i) {
-        SplitLong::Plus(n) => {
-            if n <= 99_999_999 {
-                give_sign(false, n as u32)
-            } else {
-                100_000_000
-            }
-        }
-        SplitLong::Minus(n) => {
-            if n <= 99_999_999 {
-                give_sign(true, n as u32)
-            } else {
-                100_000_000
-            }
-        }
+    let z = word_at(values, i);
+    if z.unsigned_abs() <= 99_999_999 {
+        z as i32
+    } else {
+        100_000_000
     }
 }
 
@@ -94,54 +51,33 @@ fn signed_at(values: &[i64], i: usize) -> i32
 fn correlation_at(values: &[i64], i: usize) -> i64
     ensures { result ≡ signed_of (word_at values.now i) }
 {
-    signed_at(values, i) as i64
+    i64::from(signed_at(values, i))
 }
 
 // A standard deviation.
 fn deviation_at(values: &[i64], i: usize) -> u64
     ensures { result ≡ number_at values.now i }
 {
-    number_at(values, i) as u64
+    u64::from(number_at(values, i))
 }
 
 // The least word is a missing height.
-fn is_missing(values: &[i64], i: usize) -> bool
-    ensures { result ≡ is_least (word_at values.now i) }
-{
-    match split_at(values, i) {
-        SplitLong::Plus(n) => false,
-        SplitLong::Minus(n) => n == 9_223_372_036_854_775_808,
-    }
-}
-
-fn height_at(values: &[i64], i: usize) -> Height
+fn height_at(values: &[i64], i: usize) -> Option<i32>
     ensures { result ≡ height_of (word_at values.now i) }
 {
-    if is_missing(values, i) {
-        return Height::Missing;
+    if word_at(values, i) == i64::MIN {
+        return None;
     }
-    Height::Mm(signed_at(values, i))
+    Some(signed_at(values, i))
 }
 
-pub(crate) fn give_sequence(values: &[i64]) -> Sequence
+pub(crate) fn give_sequence(values: &[i64]) -> Option<u32>
     ensures { result ≡ sequence_given values.now }
 {
-    match split_at(values, 1) {
-        SplitLong::Plus(n) => {
-            if n <= 4_294_967_294 {
-                Sequence::Number(n as u32)
-            } else {
-                Sequence::Number(4_294_967_295)
-            }
-        }
-        SplitLong::Minus(n) => {
-            if n == 1 {
-                Sequence::Missing
-            } else {
-                Sequence::Number(4_294_967_295)
-            }
-        }
+    if word_at(values, 1) == -1 {
+        return None;
     }
+    Some(number_at(values, 1))
 }
 
 fn two_at(values: &[i64], i: usize) -> Two
@@ -178,17 +114,12 @@ fn media_at(values: &[i64], i: usize) -> Media
     requires { i < 90 }
     ensures { result ≡ media_at values.now i }
 {
-    let maker = character_at(values, i);
-    let day = number_at(values, i + 1);
-    let year = digit_at(values, i + 2);
-    let session = character_at(values, i + 3);
-    let mark = four_at(values, i + 4);
     Media {
-        maker: maker,
-        day: day,
-        year: year,
-        session: session,
-        mark: mark,
+        maker: character_at(values, i),
+        day: number_at(values, i + 1),
+        year: digit_at(values, i + 2),
+        session: character_at(values, i + 3),
+        mark: four_at(values, i + 4),
     }
 }
 

@@ -8,10 +8,9 @@ use crate::words::{
     clear, put_character, put_four, put_height, put_media, put_number, put_sequence, put_signed,
     put_three, put_two,
 };
-use columns::Height;
 use kinds::{
     Antenna, Factor, Fault, Heights, Instrument, Job, Local, Measurement, Network, Occupation,
-    Point, Project, Reading, Record, Sequence,
+    Point, Project, Reading, Record,
 };
 
 fn put_job(out: &mut [i64], r: Job)
@@ -53,7 +52,7 @@ fn put_measurement(out: &mut [i64], r: Measurement)
     put_number(out, 5, r.station);
     put_number(out, 6, r.date);
     put_number(out, 7, r.time);
-    put_height(out, 8, Height::Mm(height));
+    put_height(out, 8, Some(height));
 }
 
 fn put_instrument(out: &mut [i64], r: Instrument)
@@ -196,7 +195,7 @@ fn number_kind(what: Record) -> u32
     }
 }
 
-fn put_values(out: &mut [i64], s: Sequence, what: Record)
+fn put_values(out: &mut [i64], s: Option<u32>, what: Record)
     requires { in_range what ≡ true }
     ensures { out.new ≡ laid 3 (pos (kind_number what) ∷ sequence_word s ∷ value_words what) out.old }
 {

@@ -2,8 +2,8 @@
 ghost use Rattle.std.specs.Prelude.{◌≡◌, ◌<◌, length, set, replicate, pos};
 ghost use Rattle.answers.specs.Words.{height_word, sequence_word, two_words, three_words, four_words, media_words, laid};
 
-use columns::{Four, Height, Media};
-use kinds::{Sequence, Three, Two};
+use columns::{Four, Media};
+use kinds::{Three, Two};
 
 pub(crate) fn clear(out: &mut [i64])
     requires { length out.old ≡ 32 }
@@ -39,27 +39,27 @@ pub(crate) fn put_character(out: &mut [i64], at: usize, b: u8)
 }
 
 // Missing is the least word, and not 0.
-pub(crate) fn height_word(h: Height) -> i64
+pub(crate) fn height_word(h: Option<i32>) -> i64
     ensures { result ≡ height_word h }
 {
     match h {
-        Height::Missing => i64::MIN,
-        Height::Mm(z) => z as i64,
+        None => i64::MIN,
+        Some(z) => z as i64,
     }
 }
 
-pub(crate) fn put_height(out: &mut [i64], at: usize, h: Height)
+pub(crate) fn put_height(out: &mut [i64], at: usize, h: Option<i32>)
     ensures { out.new ≡ set out.old at (height_word h) }
 {
     put_signed(out, at, height_word(h));
 }
 
-pub(crate) fn put_sequence(out: &mut [i64], at: usize, s: Sequence)
+pub(crate) fn put_sequence(out: &mut [i64], at: usize, s: Option<u32>)
     ensures { out.new ≡ set out.old at (sequence_word s) }
 {
     match s {
-        Sequence::Missing => put_signed(out, at, -1),
-        Sequence::Number(n) => put_number(out, at, n),
+        None => put_signed(out, at, -1),
+        Some(n) => put_number(out, at, n),
     }
 }
 

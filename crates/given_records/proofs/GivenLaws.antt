@@ -16,7 +16,6 @@ use Rattle.rules.specs.Kinds.{data_codes, kind_from, starred, kind_between, kind
 use Rattle.rules.specs.Layouts.{at, layouts, layout}
 use Rattle.rules.specs.Chapter4.{chapter4}
 use Rattle.rules.proofs.Truth.{both, and, of≤, to≡, of≡, of≢, cases, is_no, not_both, to_within}
-use Rattle.columns.specs.declared.Count.{Count}
 use Rattle.columns.specs.declared.Set.{Set}
 use Rattle.columns.specs.Types.{set_of, count_value}
 use Rattle.kinds.specs.declared.Job.{Job}
@@ -28,6 +27,7 @@ use Rattle.kinds.proofs.ValueLaws.{code_kind}
 use Rattle.given_records.specs.Judging.{after_of, layout_of, judge_record}
 use Rattle.given_records.proofs.JudgeLaws.{after-after, ⨾_same}
 use Rattle.given_records.proofs.KindLaws.{word_of}
+use Rattle.std.specs.Prelude.{Option}
 
 -- ---- the fourteen kinds
 below_14 : (r : Record) → kind_number r ≤ 13
@@ -152,9 +152,9 @@ unfolding judge_record meaning_of values_of
 job_arm j k a b c e = sym (rw e)
 
 -- ---- the whole judgement
-pub sequence_fits : (x : Count) {q : Value} {t : Bool} → count_value x ≡ q → t ≡ fits (number 6 1 999_999 true) (count_value x) → t ≡ fits sequence q
+pub sequence_fits : (x : Option ℕ) {t : Bool} → t ≡ fits (number 6 1 999_999 true) (count_value x) → t ≡ fits sequence (count_value x)
 unfolding sequence
-sequence_fits x e h = rw (← e) h
+sequence_fits x h = h
 
 pub given_judged : (r : Record) (q : Value) (a b c : List ℕ) {t : Bool} {j x : Judged} → t ≡ fits sequence q → j ≡ after_of Judged.Good (check t 9 1)
     → x ≡ after_of j (judge_record r a b c) → x ≡ judged_of (judge_given chapter4 (kind_number r) q (meaning_of r a b c))

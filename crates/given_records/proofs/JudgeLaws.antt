@@ -1,6 +1,6 @@
 -- Tests in a row: one law for each way through a function. Assumes nothing.
 use mathlib.Core.Path.{◌≡◌, refl, sym, ◌∙◌}
-use mathlib.Core.Bool.{Bool, true, false, not, ◌&&◌, ◌||◌}
+use mathlib.Core.Bool.{Bool, true, false, not, ◌&&◌, ◌||◌, false≢true}
 use mathlib.Core.List.{List, [], ◌∷◌, ◌++◌}
 use Prim.Native.Nat.{ℕ}
 use lib.Dec.{eqb}
@@ -12,11 +12,11 @@ use Rattle.rules.specs.Fields.{Verdict, ok, fault, check, ◌⨾◌, same_truth,
 use Rattle.rules.proofs.Truth.{of≡}
 use Rattle.rules.proofs.FieldLaws.{⨾_assoc}
 use Rattle.columns.proofs.Loops.{&_is}
-use Rattle.columns.specs.declared.Height.{Height}
 use Rattle.columns.specs.Types.{height_value}
 use Rattle.kinds.specs.declared.Judged.{Judged}
 use Rattle.kinds.specs.Values.{judged_of}
 use Rattle.given_records.specs.Judging.{after_of}
+use Rattle.std.specs.Prelude.{Option, Some, None, ℤ, is_some}
 
 pub after-after : (j : Judged) (u v : Verdict) → after_of (after_of j u) v ≡ after_of j (u ⨾ v)
 unfolding after_of judged_of ◌⨾◌
@@ -69,7 +69,15 @@ tie_test m t = go m (eqb t 32)
     go false true = unfold ◌&◌ in refl
     go false false = unfold ◌&◌ in refl
 
-pub tied_judged : (j : Judged) (h : Height) (t c : ℕ) {s r : Judged} {m : Bool} → m ≡ is_missing (height_value h) → s ≡ j
+-- what the library tells of the code's heights
+pub told_missing : (h : Option ℤ) {m : Bool} → is_some h ≡ not m → m ≡ is_missing (height_value h)
+unfolding is_missing height_value
+told_missing None {m = true} e = refl
+told_missing None {m = false} e = absurd (false≢true e)
+told_missing (Some z) {m = true} e = absurd (false≢true (sym e))
+told_missing (Some z) {m = false} e = refl
+
+pub tied_judged : (j : Judged) (h : Option ℤ) (t c : ℕ) {s r : Judged} {m : Bool} → m ≡ is_missing (height_value h) → s ≡ j
     → r ≡ after_of s (check (m && eqb t 32 || not m && not (eqb t 32)) 10 c) → r ≡ after_of j (check (same_truth (is_missing (height_value h)) (is_missing (text (t ∷ [])))) 10 c)
 tied_judged j h t c d e q = q ∙ rw (e, d, tie_test (is_missing (height_value h)) t)
 

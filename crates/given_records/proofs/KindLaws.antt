@@ -11,7 +11,6 @@ use Rattle.rules.specs.Items.{Value, num, text, Item, number, height, angle, mon
 use Rattle.rules.specs.Fields.{Verdict, check, ◌⨾◌, anything, given, entries_of, value_at, num_of, is_missing, same_truth, meets, agrees_with, agrees, judge_each, judge}
 use Rattle.rules.specs.Layouts.{station, metres, deviation, correlation, variance, project, occupation, measurement, receiver, aerial, point, heights, network, local, factor}
 use Rattle.columns.specs.declared.Set.{Set}
-use Rattle.columns.specs.declared.Height.{Height}
 use Rattle.columns.specs.Types.{set_of, height_value, media_value, four_of}
 use Rattle.kinds.specs.declared.Record.TheVariants as R
 use Rattle.kinds.specs.declared.Project.{Project}
@@ -29,13 +28,14 @@ use Rattle.kinds.specs.Values.{two_text, three_text, values_of}
 use Rattle.given_records.specs.Accuracies.{judge_accuracy}
 use Rattle.given_records.specs.Judging.{height_entries, judge_orthometric, judge_others}
 use Rattle.given_records.proofs.JudgeLaws.{chain, chain_append, chain_within}
+use Rattle.std.specs.Prelude.{Option}
 
 -- a value of its kind and range
 unfoldable pub form : Item → Value → ℕ → Verdict
 form i v c = check (fits i v) 9 c
 
 -- a character that is blank exactly when a height is missing
-unfoldable pub tie : Height → ℕ → ℕ → Verdict
+unfoldable pub tie : Option ℤ → ℕ → ℕ → Verdict
 tie h t c = check (same_truth (is_missing (height_value h)) (is_missing (text (t ∷ [])))) 10 c
 
 unfoldable pub word_of : ℕ → Set → Item

@@ -12,7 +12,7 @@ use columns::heights::{height_fits, signed_fits};
 use columns::labels::media_fits;
 use columns::numbers::{count_fits, month_fits, number_fits};
 use columns::sets::{good_word, good_word_or_blank};
-use columns::{Count, Four, Height, Media, Set, Way};
+use columns::{Four, Media, Set, Way};
 use kinds::{Judged, Three, Two};
 
 pub(crate) fn judge_test(j: Judged, ok: bool, number: u32, column: usize) -> Judged
@@ -33,7 +33,7 @@ pub(crate) fn judge_test(j: Judged, ok: bool, number: u32, column: usize) -> Jud
 pub(crate) fn judge_count(j: Judged, n: u32, w: usize, lo: u32, hi: u32, column: usize) -> Judged
     ensures { result ≡ after_of j (check (fits (number w lo hi false) (num (pos n))) 9 column) }
 {
-    judge_test(j, count_fits(Count::Is(n), w, lo, hi, false), 9, column)
+    judge_test(j, count_fits(Some(n), w, lo, hi, false), 9, column)
 }
 
 // The same where 32 bits do not hold what the columns do.
@@ -52,7 +52,7 @@ pub(crate) fn judge_month(j: Judged, n: u32, column: usize) -> Judged
 // From -lo to hi.
 pub(crate) fn judge_height(
     j: Judged,
-    h: Height,
+    h: Option<i32>,
     w: usize,
     lo: u32,
     hi: u32,
@@ -131,20 +131,11 @@ pub(crate) fn judge_pair(j: Judged, t: Two, s: Set, column: usize) -> Judged
     judge_test(j, good_word_or_blank(&bytes, s), 9, column)
 }
 
-fn is_missing(h: Height) -> bool
-    ensures { result ≡ is_missing (height_value h) }
-{
-    match h {
-        Height::Missing => true,
-        Height::Mm(_) => false,
-    }
-}
-
 // A character that is blank exactly when the height is missing.
-pub(crate) fn judge_tied(j: Judged, h: Height, t: u8, s: Set, column: usize) -> Judged
+pub(crate) fn judge_tied(j: Judged, h: Option<i32>, t: u8, s: Set, column: usize) -> Judged
     ensures { result ≡ after_of (after_of j (check (fits (word 1 (each (set_of s))) (text (t ∷ []))) 9 column)) (check (same_truth (is_missing (height_value h)) (is_missing (text (t ∷ [])))) 10 column) }
 {
-    let missing = is_missing(h);
+    let missing = h.is_none();
     let blank = t == 32;
     let formed = judge_one(j, t, s, column);
     judge_test(formed, (missing & blank) | (!missing & !blank), 10, column)

@@ -6,7 +6,7 @@ ghost use Rattle.rules.specs.Records.{judge_given};
 ghost use Rattle.rules.specs.Layouts.{project, occupation, measurement, receiver, aerial, point, heights, network, local, factor};
 ghost use Rattle.rules.specs.Chapter4.{chapter4};
 ghost use Rattle.columns.specs.Types.{count_value, height_value};
-ghost use Rattle.kinds.specs.Values.{sequence_value, kind_number, meaning_of, values_of, judged_of};
+ghost use Rattle.kinds.specs.Values.{kind_number, meaning_of, values_of, judged_of};
 ghost use Rattle.kinds.specs.declared.Record.TheVariants as R;
 ghost use Rattle.given_records.specs.Accuracies.{judge_accuracy};
 ghost use Rattle.given_records.specs.Judging.{after_of, judge_record, judge_orthometric, judge_others};
@@ -17,11 +17,11 @@ use crate::judging::{
     judge_text, judge_three, judge_tied, judge_two,
 };
 use columns::numbers::count_fits;
-use columns::{Count, Height, Set, Way};
+use columns::{Set, Way};
 use kinds::accuracies::{CORRELATION, EAST, ELLIPSOID, SCALED};
 use kinds::{
     Antenna, Comment, Continuation, Factor, Heights, Instrument, Job, Judged, Local, Measurement,
-    Network, Occupation, Point, Project, Record, Sequence, Title,
+    Network, Occupation, Point, Project, Record, Title,
 };
 
 fn judge_project(j: Judged, p: Project, a: &[u8], b: &[u8]) -> Judged
@@ -102,7 +102,7 @@ fn judge_measurement(j: Judged, m: Measurement) -> Judged
     );
     judge_height(
         j,
-        Height::Mm(m.height),
+        Some(m.height),
         Measurement::HEIGHT_WIDTH,
         9_999,
         99_999,
@@ -167,7 +167,7 @@ fn judge_point(j: Judged, p: Point, a: &[u8]) -> Judged
 }
 
 // A height of *86*.
-fn judge_metres(j: Judged, h: Height, w: usize, column: usize) -> Judged
+fn judge_metres(j: Judged, h: Option<i32>, w: usize, column: usize) -> Judged
     ensures { result ≡ after_of j (check (fits (height w 999_999 9_999_999 true) (height_value h)) 9 column) }
 {
     judge_height(j, h, w, 999_999, 9_999_999, true, column)
@@ -386,19 +386,10 @@ fn judge_record(j: Judged, what: Record, a: &[u8], b: &[u8], c: &[u8]) -> Judged
     }
 }
 
-pub fn count_of(s: Sequence) -> Count
-    ensures { count_value result ≡ sequence_value s }
+pub fn judge_given(s: Option<u32>, what: Record, a: &[u8], b: &[u8], c: &[u8]) -> Judged
+    ensures { result ≡ judged_of (judge_given chapter4 (kind_number what) (count_value s) (meaning_of what a.now b.now c.now)) }
 {
-    match s {
-        Sequence::Missing => Count::Missing,
-        Sequence::Number(n) => Count::Is(n),
-    }
-}
-
-pub fn judge_given(s: Sequence, what: Record, a: &[u8], b: &[u8], c: &[u8]) -> Judged
-    ensures { result ≡ judged_of (judge_given chapter4 (kind_number what) (sequence_value s) (meaning_of what a.now b.now c.now)) }
-{
-    let ok = count_fits(count_of(s), Sequence::NUMBER_WIDTH, 1, 999_999, true);
-    let j = judge_test(Judged::Good, ok, 9, Sequence::NUMBER);
+    let ok = count_fits(s, Record::NUMBER_WIDTH, 1, 999_999, true);
+    let j = judge_test(Judged::Good, ok, 9, Record::NUMBER);
     judge_record(j, what, a, b, c)
 }

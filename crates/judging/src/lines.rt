@@ -14,7 +14,7 @@ use crate::fields::judge_fields;
 use crate::spots::{FieldKind, first_bad};
 use columns::numbers::good_number;
 use columns::sets::all_within;
-use kinds::{Expect, Judged, Record, Sequence};
+use kinds::{Expect, Judged, Record};
 
 // Nothing is wrong with the bytes: one test of all columns at once, since hardly a line fails it.
 fn is_clean(line: &[u8]) -> bool
@@ -41,8 +41,8 @@ fn has_number(line: &[u8]) -> bool
     requires { 80 ≤ length line.now }
     ensures { result ≡ good sequence (take 6 line.now) }
 {
-    let at = Sequence::NUMBER - 1;
-    let end = at + Sequence::NUMBER_WIDTH;
+    let at = Record::NUMBER - 1;
+    let end = at + Record::NUMBER_WIDTH;
     good_number(&line[at..end], 1, 999_999, true)
 }
 
@@ -51,8 +51,8 @@ fn spot_number(line: &[u8]) -> usize
     requires { 80 ≤ length line.now }
     ensures { result ≡ spot sequence (take 6 line.now) }
 {
-    let at = Sequence::NUMBER - 1;
-    let end = at + Sequence::NUMBER_WIDTH;
+    let at = Record::NUMBER - 1;
+    let end = at + Record::NUMBER_WIDTH;
     first_bad(&line[at..end], FieldKind::Number(1, 999_999, true))
 }
 
@@ -64,7 +64,7 @@ pub fn judge_rest(line: &[u8], kind: usize, e: Expect) -> Judged
     if has_number(line) {
         return judge_fields(line, kind, e);
     }
-    Judged::Bad(9, Sequence::NUMBER + spot_number(line))
+    Judged::Bad(9, Record::NUMBER + spot_number(line))
 }
 
 // A record by itself, as read judges it.

@@ -9,18 +9,18 @@ use Rattle.rules.specs.Digits.{val}
 use Rattle.rules.specs.Items.{gap}
 use Rattle.rules.specs.Fields.{Verdict, ok, fault}
 use Rattle.rules.specs.Kinds.{data_codes, kind_from, starred, kind_between, kind_of}
-use Rattle.columns.specs.Types.{nat_of, int_of, media_of, media_value, four, four_of}
+use Rattle.columns.specs.Types.{nat_of, int_of, media_of, media_value, four, four_of, count_of, count_value}
 use Rattle.columns.proofs.RoundTrip.{height_same}
-use Rattle.kinds.specs.declared.Sequence.{Sequence}
 use Rattle.kinds.specs.declared.Judged.{Judged}
 use Rattle.kinds.specs.declared.Record.{Record}
 use Rattle.kinds.specs.declared.Record.TheVariants as R
-use Rattle.kinds.specs.Values.{text_of, two, two_text, three, three_text, sequence_of, sequence_value, kind_number, code_of, values_of, meaning_of, char_of, record_from, record_of, judged_of}
+use Rattle.kinds.specs.Values.{text_of, two, two_text, three, three_text, kind_number, code_of, values_of, meaning_of, char_of, record_from, record_of, judged_of}
+use Rattle.std.specs.Prelude.{Option, Some, None}
 
-pub sequence_back : (s : Sequence) → sequence_of (sequence_value s) ≡ s
-unfolding sequence_of sequence_value
-sequence_back Sequence.Missing = refl
-sequence_back (Sequence.Number n) = refl
+pub sequence_back : (s : Option ℕ) → count_of (count_value s) ≡ s
+unfolding count_of count_value
+sequence_back None = refl
+sequence_back (Some n) = refl
 
 -- the answers of the judge
 pub good_is : (v : Verdict) → judged_of v ≡ Judged.Good → v ≡ ok

@@ -1,5 +1,5 @@
 -- The code's types as 01's numbers and values: for each case of each enum the definition that the promises use.
-use Rattle.std.specs.Prelude.{List, [], ◌∷◌, ℕ, get_or, pos, negsuc}
+use Rattle.std.specs.Prelude.{List, [], ◌∷◌, ℕ, get_or, pos, negsuc, Option, Some, None}
 use Rattle.rules.specs.Characters.{ascii}
 use Rattle.rules.specs.Items.{Value, gap, missing, num, text, label}
 use Rattle.rules.specs.Fields.{Verdict, ok, fault}
@@ -8,10 +8,9 @@ use Rattle.rules.specs.Records.{Meaning}
 use Rattle.rules.specs.Files.{Result, accept, refuse}
 use Rattle.rules.specs.Kinds.{kind_of}
 use Rattle.rules.specs.Calls as calls
-use Rattle.columns.specs.Types.{nat_of, int_of, height_of, height_value, media_of, media_value, four, four_of}
+use Rattle.columns.specs.Types.{count_of, nat_of, int_of, height_of, height_value, media_of, media_value, four, four_of}
 use Rattle.kinds.specs.declared.Two.{Two}
 use Rattle.kinds.specs.declared.Three.{Three}
-use Rattle.kinds.specs.declared.Sequence.{Sequence}
 use Rattle.kinds.specs.declared.Record.{Record}
 use Rattle.kinds.specs.declared.Record.TheVariants as R
 use Rattle.kinds.specs.declared.Fault.{Fault}
@@ -40,19 +39,6 @@ three t = record { 0 = get_or t 0 0; 1 = get_or t 1 0; 2 = get_or t 2 0 }
 
 unfoldable pub three_text : Three → List ℕ
 three_text t = t.0 ∷ t.1 ∷ t.2 ∷ []
-
--- ---- sequence numbers
-unfoldable pub sequence_of : Value → Sequence
-sequence_of gap = Sequence.Missing
-sequence_of missing = Sequence.Missing
-sequence_of (num (pos n)) = Sequence.Number n
-sequence_of (num (negsuc n)) = Sequence.Missing
-sequence_of (text t) = Sequence.Missing
-sequence_of (label m d y s t) = Sequence.Missing
-
-unfoldable pub sequence_value : Sequence → Value
-sequence_value Sequence.Missing = missing
-sequence_value (Sequence.Number n) = num (pos n)
 
 -- ---- records: the kind, the code in columns 7-10, and the values from column 11 on, with the texts of more than four columns given in column order
 unfoldable pub kind_number : Record → ℕ
@@ -172,7 +158,7 @@ fault_of accept = record { number = 0; «record» = 0; column = 0 }
 fault_of (refuse n r c) = record { number = n; «record» = r; column = c }
 
 unfoldable pub reading_of : calls.Reading → Reading
-reading_of (calls.values q m) = Reading.Values (sequence_of q) (record_of m)
+reading_of (calls.values q m) = Reading.Values (count_of q) (record_of m)
 reading_of (calls.unread n r c) = Reading.Refused record { number = n; «record» = r; column = c }
 
 -- write refuses with record 0

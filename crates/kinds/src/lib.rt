@@ -1,7 +1,7 @@
 // The types of records and of answers. The first column and the width of each field are constants of its record's type.
 #![tactic(auto)]
 
-use columns::{Four, Height, Media};
+use columns::{Four, Media};
 
 pub mod accuracies;
 pub mod tables;
@@ -17,19 +17,6 @@ pub struct Two(pub u8, pub u8);
 // Three characters.
 #[derive(Clone, Copy)]
 pub struct Three(pub u8, pub u8, pub u8);
-
-// A sequence number: columns 1-6 of every record.
-#[derive(Clone, Copy)]
-pub enum Sequence {
-    Missing,
-    Number(u32),
-}
-
-impl Sequence {
-    pub const NUMBER: usize = 1;
-
-    pub const NUMBER_WIDTH: usize = 6;
-}
 
 // The first and the last record: a job code.
 #[derive(Clone, Copy)]
@@ -431,14 +418,14 @@ impl Point {
 #[derive(Clone, Copy)]
 pub struct Heights {
     pub station: u32,
-    pub orthometric: Height,
+    pub orthometric: Option<i32>,
     pub code: u8,
     pub class: Two,
     pub indicator: u8,
     pub datum: Two,
-    pub geoid: Height,
+    pub geoid: Option<i32>,
     pub geoidcode: u8,
-    pub ellipsoid: Height,
+    pub ellipsoid: Option<i32>,
     pub ellipsoidcode: u8,
     pub ellipsoiddatum: u8,
 }
@@ -510,14 +497,14 @@ impl Heights {
 
     pub fn new(
         station: u32,
-        orthometric: Height,
+        orthometric: Option<i32>,
         code: u8,
         class: Two,
         indicator: u8,
         datum: Two,
-        geoid: Height,
+        geoid: Option<i32>,
         geoidcode: u8,
-        ellipsoid: Height,
+        ellipsoid: Option<i32>,
         ellipsoidcode: u8,
         ellipsoiddatum: u8,
     ) -> Heights
@@ -738,8 +725,12 @@ pub enum Record {
     Factor(Factor),
 }
 
-// The code: columns 7-10 of every record.
+// The sequence number, which may be missing, and the code: columns 1-6 and 7-10 of every record.
 impl Record {
+    pub const NUMBER: usize = 1;
+
+    pub const NUMBER_WIDTH: usize = 6;
+
     pub const CODE: usize = 7;
 
     pub const CODE_WIDTH: usize = 4;
@@ -763,7 +754,7 @@ pub struct Checked {
 // What read answers.
 #[derive(Clone, Copy)]
 pub enum Reading {
-    Values(Sequence, Record),
+    Values(Option<u32>, Record),
     Refused(Fault),
 }
 

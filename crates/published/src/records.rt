@@ -4,9 +4,7 @@ use crate::faults::{ACCEPTED, lay_fault, lay_outcome};
 use crate::text::{SPACE, first, lay, lay_quoted, lay_whole};
 use crate::values::{Value, read_value};
 use columns::Four;
-use kinds::{
-    Factor, Fault, Heights, Local, Network, Point, Reading, Record, Sequence, Title, Written,
-};
+use kinds::{Factor, Fault, Heights, Local, Network, Point, Reading, Record, Title, Written};
 
 fn lay_code(out: &mut [u8; SPACE], t: Four, n: usize) -> usize {
     let code = [t.0, t.1, t.2, t.3];
@@ -71,7 +69,7 @@ fn write_values(
     line: &mut [u8; SPACE],
     file: &[u8],
     record: usize,
-    s: Sequence,
+    s: Option<u32>,
     what: Record,
 ) -> Written {
     let t = texts_of(what);

@@ -1,9 +1,8 @@
 // One value of a record that was read, named by its field's first column.
-use columns::signs::{Split, SplitLong, split_long, split_sign};
-use columns::{Four, Height};
+use columns::Four;
 use kinds::{
     Antenna, Factor, Fault, Heights, Instrument, Job, Local, Measurement, Network, Occupation,
-    Point, Reading, Record, Sequence, Two,
+    Point, Reading, Record, Two,
 };
 
 #[derive(Clone, Copy)]
@@ -25,23 +24,17 @@ fn counted(n: u32) -> Value {
 }
 
 fn millimetres(z: i32) -> Value {
-    match split_sign(z) {
-        Split::Plus(n) => Value::Whole(false, n as u64),
-        Split::Minus(n) => Value::Whole(true, n as u64),
-    }
+    signed(i64::from(z))
 }
 
 fn signed(z: i64) -> Value {
-    match split_long(z) {
-        SplitLong::Plus(n) => Value::Whole(false, n),
-        SplitLong::Minus(n) => Value::Whole(true, n),
-    }
+    Value::Whole(z < 0, z.unsigned_abs())
 }
 
-fn height(h: Height) -> Value {
+fn height(h: Option<i32>) -> Value {
     match h {
-        Height::Missing => Value::Missing,
-        Height::Mm(z) => millimetres(z),
+        None => Value::Missing,
+        Some(z) => millimetres(z),
     }
 }
 
@@ -195,10 +188,10 @@ fn of_record(what: Record, column: usize) -> Value {
     }
 }
 
-fn of_sequence(s: Sequence) -> Value {
+fn of_sequence(s: Option<u32>) -> Value {
     match s {
-        Sequence::Missing => Value::Missing,
-        Sequence::Number(n) => counted(n),
+        None => Value::Missing,
+        Some(n) => counted(n),
     }
 }
 
@@ -206,7 +199,7 @@ fn value_in(r: Reading, column: usize) -> Value {
     match r {
         Reading::Refused(f) => Value::Refused(f),
         Reading::Values(s, what) => {
-            if column == Sequence::NUMBER {
+            if column == Record::NUMBER {
                 of_sequence(s)
             } else {
                 of_record(what, column)

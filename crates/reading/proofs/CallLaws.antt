@@ -19,16 +19,17 @@ use Rattle.rules.proofs.Truth.{both, to≤, of≢, cases, to_within, above_0}
 use Rattle.rules.proofs.RecordLaws.{read_line_splits, line_long}
 use Rattle.rules.proofs.Chapter4Laws.{layout-covers}
 use Rattle.rules.proofs.FileLaws.{reaches}
-use Rattle.kinds.specs.declared.Sequence.{Sequence}
 use Rattle.kinds.specs.declared.Record.{Record}
 use Rattle.kinds.specs.declared.Reading.{Reading}
 use Rattle.kinds.specs.declared.Judged.{Judged}
-use Rattle.kinds.specs.Values.{judged_of, sequence_of, record_of, reading_of}
+use Rattle.kinds.specs.Values.{judged_of, record_of, reading_of}
 use Rattle.kinds.proofs.ValueLaws.{good_is, bad_is}
 use Rattle.columns.proofs.Loops.{&_is}
 use Rattle.reading.specs.Values.{record_in}
 use Rattle.reading.specs.Widths.{width_in}
 use Rattle.reading.proofs.WidthLaws.{field_inside}
+use Rattle.std.specs.Prelude.{Option}
+use Rattle.columns.specs.Types.{count_of}
 
 pub there_is : (r n : ℕ) → ((leb 1 r && leb r 99_999) && leb r n) ≡ within 1 99_999 r & r ≤? n
 unfolding within ◌≤?◌
@@ -58,7 +59,7 @@ module _ (l : List ℕ) (n : ℕ) (j : Judged) (p : j ≡ judged_of (read_line c
   unfolding read_as reading_of
   line_refused m c q = rw (bad_is (read_line chapter4 l) m c (sym p ∙ q))
 
-  pub line_values : j ≡ Judged.Good → (k : ℕ) → k ≡ kind_of (code_at l) → (s : Sequence) → s ≡ sequence_of (value_of sequence (take 6 l)) → (r : Record) → r ≡ record_in k l
+  pub line_values : j ≡ Judged.Good → (k : ℕ) → k ≡ kind_of (code_at l) → (s : Option ℕ) → s ≡ count_of (value_of sequence (take 6 l)) → (r : Record) → r ≡ record_in k l
       → Reading.Values s r ≡ reading_of (read_as n l (read_line chapter4 l))
   unfolding read_as reading_of record_of record_in meaning layout
   line_values q k z s x r y = rw (good_is (read_line chapter4 l) (sym p ∙ q), x, y, z)

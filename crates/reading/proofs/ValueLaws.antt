@@ -18,14 +18,11 @@ use Rattle.rules.specs.Records.{sequence, code_at}
 use Rattle.rules.proofs.Truth.{of≤, cases}
 use Rattle.rules.proofs.FileLaws.{length-take_most}
 use Rattle.columns.proofs.ValueLaws.{blank-val}
-use Rattle.columns.specs.declared.Count.{Count}
-use Rattle.columns.specs.declared.Height.{Height}
 use Rattle.columns.specs.Types.{nat_of, int_of, height_of, count_of, media_of, four, way_of}
 use Rattle.columns.specs.declared.Four.{Four}
 use Rattle.columns.specs.declared.Media.{Media}
 use Rattle.kinds.specs.declared.Two.{Two}
 use Rattle.kinds.specs.declared.Three.{Three}
-use Rattle.kinds.specs.declared.Sequence.{Sequence}
 use Rattle.kinds.specs.declared.Job.{Job}
 use Rattle.kinds.specs.declared.Project.{Project}
 use Rattle.kinds.specs.declared.Occupation.{Occupation}
@@ -40,8 +37,10 @@ use Rattle.kinds.specs.declared.Factor.{Factor}
 use Rattle.columns.specs.declared.Way.{Way}
 use Rattle.kinds.specs.declared.Record.{Record}
 use Rattle.kinds.specs.declared.Record.TheVariants as R
-use Rattle.kinds.specs.Values.{text_of, char_of, two, three, sequence_of, record_from}
+use Rattle.kinds.specs.Values.{text_of, char_of, two, three, record_from}
 use Rattle.reading.specs.Values.{nat_in, month_in, height_in, signed_in, job_in, project_in, occupation_in, measurement_in, instrument_in, antenna_in, point_in, heights_in, network_in, local_in, factor_in, record_in}
+use Rattle.std.specs.Prelude.{Option, None}
+use Rattle.std.specs.Option.{unwrap_or}
 
 -- ---- each kind
 module _ (l : List ℕ) where
@@ -114,57 +113,26 @@ few n m l h = of≤ (omega (arith, length-take_most n l))
 pub told : {A : Type 0} (n m : ℕ) (l : List ℕ) (x y : A) → n ≤ m → cond (length (take n l) ≤? m) x y ≡ x
 told n m l x y h = rw (few n m l h)
 
--- ---- answers of the readers below, by cases
-abbrev pub nat_count : Count → ℕ
-nat_count Count.Missing = 0
-nat_count (Count.Is n) = n
-
-abbrev pub sequence_count : Count → Sequence
-sequence_count Count.Missing = Sequence.Missing
-sequence_count (Count.Is n) = Sequence.Number n
-
-abbrev pub int_height : Height → ℤ
-int_height Height.Missing = pos 0
-int_height (Height.Mm z) = z
-
-nat_count_lem : (v : Value) → nat_count (count_of v) ≡ nat_of v
+-- ---- a number and a height that are never missing
+or_zero : (v : Value) → unwrap_or (count_of v) 0 ≡ nat_of v
 unfolding count_of nat_of
-nat_count_lem gap = refl
-nat_count_lem missing = refl
-nat_count_lem (num (pos n)) = refl
-nat_count_lem (num (negsuc n)) = refl
-nat_count_lem (text t) = refl
-nat_count_lem (label m d y s t) = refl
+or_zero gap = refl
+or_zero missing = refl
+or_zero (num (pos n)) = refl
+or_zero (num (negsuc n)) = refl
+or_zero (text t) = refl
+or_zero (label m d y s t) = refl
 
-sequence_count_lem : (v : Value) → sequence_count (count_of v) ≡ sequence_of v
-unfolding count_of sequence_of
-sequence_count_lem gap = refl
-sequence_count_lem missing = refl
-sequence_count_lem (num (pos n)) = refl
-sequence_count_lem (num (negsuc n)) = refl
-sequence_count_lem (text t) = refl
-sequence_count_lem (label m d y s t) = refl
-
-int_height_lem : (v : Value) → int_height (height_of v) ≡ int_of v
+or_level : (v : Value) → unwrap_or (height_of v) (pos 0) ≡ int_of v
 unfolding height_of int_of
-int_height_lem gap = refl
-int_height_lem missing = refl
-int_height_lem (num z) = refl
-int_height_lem (text t) = refl
-int_height_lem (label m d y s t) = refl
+or_level gap = refl
+or_level missing = refl
+or_level (num z) = refl
+or_level (text t) = refl
+or_level (label m d y s t) = refl
 
-module _ (p : List ℕ) (h : length p ≤ 8) (k : Count) (z : k ≡ cond (length p ≤? 8) (count_of (value_of (number 0 0 0 true) p)) Count.Missing) where
-  counted : nat_count k ≡ nat_of (value_of (number 0 0 0 true) p)
-  counted =
-      let few : length p ≤? 8 ≡ true = of≤ h in
-      let k-is : k ≡ count_of (value_of (number 0 0 0 true) p) = z ∙ rw few in
-      ap nat_count k-is ∙ nat_count_lem (value_of (number 0 0 0 true) p)
-
-  pub number-missing : k ≡ Count.Missing → 0 ≡ nat_of (value_of (number 0 0 0 true) p)
-  number-missing q = sym (ap nat_count q) ∙ counted
-
-  pub number-given : (n : ℕ) → k ≡ Count.Is n → n ≡ nat_of (value_of (number 0 0 0 true) p)
-  number-given n q = sym (ap nat_count q) ∙ counted
+pub number-given : (p : List ℕ) → length p ≤ 8 → {k : Option ℕ} → k ≡ cond (length p ≤? 8) (count_of (value_of (number 0 0 0 true) p)) None → unwrap_or k 0 ≡ nat_of (value_of (number 0 0 0 true) p)
+number-given p h z = rw (z, of≤ h) (or_zero _)
 
 -- columns that are all there, and columns of which some may not be
 module _ (l : List ℕ) (c w : ℕ) where
@@ -181,37 +149,21 @@ module _ (l : List ℕ) (c w : ℕ) where
     number-part r q = q ∙ rw e
 
 module _ (l p : List ℕ) where
-  module _ (e : p ≡ take 6 l) (k : Count) (z : k ≡ cond (length p ≤? 8) (count_of (value_of (number 0 0 0 true) p)) Count.Missing) where
-    sequenced : sequence_count k ≡ sequence_of (value_of sequence (take 6 l))
-    unfolding sequence value_of
-    sequenced =
-        let k-is : k ≡ count_of (value_of (number 0 0 0 true) (take 6 l)) = z ∙ rw e (told 6 8 l _ _ (lit≤ tt)) in
-        ap sequence_count k-is ∙ sequence_count_lem (value_of (number 0 0 0 true) (take 6 l))
+  pub sequence_given_lem : p ≡ take 6 l → {k : Option ℕ} → k ≡ cond (length p ≤? 8) (count_of (value_of (number 0 0 0 true) p)) None → k ≡ count_of (value_of sequence (take 6 l))
+  unfolding sequence value_of
+  sequence_given_lem e z = z ∙ rw e (told 6 8 l _ _ (lit≤ tt))
 
-    pub sequence_missing : k ≡ Count.Missing → Sequence.Missing ≡ sequence_of (value_of sequence (take 6 l))
-    sequence_missing q = sym (ap sequence_count q) ∙ sequenced
-
-    pub sequence_given_lem : (n : ℕ) → k ≡ Count.Is n → Sequence.Number n ≡ sequence_of (value_of sequence (take 6 l))
-    sequence_given_lem n q = sym (ap sequence_count q) ∙ sequenced
-
-  module _ (e : p ≡ take 5 (drop 55 l)) (k : Height) (z : k ≡ cond (length p ≤? 7) (height_of (value_of (height 0 0 0 true) p)) Height.Missing) where
-    risen : int_height k ≡ signed_in 56 5 l
-    unfolding signed_in
-    risen =
-        let k-is : k ≡ height_of (value_of (height 0 0 0 true) (take 5 (drop 55 l))) = z ∙ rw e (told 5 7 (drop 55 l) _ _ (lit≤ tt)) in
-        ap int_height k-is ∙ int_height_lem (value_of (height 0 0 0 true) (take 5 (drop 55 l)))
-
-    pub rise_missing : k ≡ Height.Missing → pos 0 ≡ signed_in 56 5 l
-    rise_missing q = sym (ap int_height q) ∙ risen
-
-    pub rise_given : (n : ℤ) → k ≡ Height.Mm n → n ≡ signed_in 56 5 l
-    rise_given n q = sym (ap int_height q) ∙ risen
+  pub rise_given : p ≡ take 5 (drop 55 l) → {k : Option ℤ} → k ≡ cond (length p ≤? 7) (height_of (value_of (height 0 0 0 true) p)) None → unwrap_or k (pos 0) ≡ signed_in 56 5 l
+  unfolding signed_in
+  rise_given e {k} z =
+      let k-is : k ≡ height_of (value_of (height 0 0 0 true) (take 5 (drop 55 l))) = z ∙ rw e (told 5 7 (drop 55 l) _ _ (lit≤ tt)) in
+      ap (λ x. unwrap_or x (pos 0)) k-is ∙ or_level _
 
   pub month-given : (c : ℕ) → p ≡ take 6 (drop (c - 1) l) → {r : ℕ} → r ≡ cond (length p ≤? 8) (nat_of (value_of month p)) 0 → r ≡ month_in c l
   unfolding month_in
   month-given c e z = z ∙ rw e (told 6 8 (drop (c - 1) l) _ _ (lit≤ tt))
 
-  pub height-given : (c : ℕ) → p ≡ take 7 (drop (c - 1) l) → {r : Height} → r ≡ cond (length p ≤? 7) (height_of (value_of (height 0 0 0 true) p)) Height.Missing → r ≡ height_in c l
+  pub height-given : (c : ℕ) → p ≡ take 7 (drop (c - 1) l) → {r : Option ℤ} → r ≡ cond (length p ≤? 7) (height_of (value_of (height 0 0 0 true) p)) None → r ≡ height_in c l
   unfolding height_in
   height-given c e z = z ∙ rw e (told 7 7 (drop (c - 1) l) _ _ (lit≤ tt))
 
@@ -284,9 +236,9 @@ module _ (l : List ℕ) where
   unfolding point_in
   point-given a x p e b y q f c z d u w = w ∙ rw (x, y, e, z, f, u)
 
-  pub heights-given : (a : ℕ) → a ≡ nat_in 11 4 l → (b : Height) → b ≡ height_in 17 l → (c : ℕ) → c ≡ get_or (take 1 (drop 23 l)) 0 0 → (d : Two) → d ≡ two (take 2 (drop 24 l))
-      → (e : ℕ) → e ≡ get_or (take 1 (drop 26 l)) 0 0 → (f : Two) → f ≡ two (take 2 (drop 27 l)) → (g : Height) → g ≡ height_in 36 l → (h : ℕ) → h ≡ get_or (take 1 (drop 42 l)) 0 0
-      → (i : Height) → i ≡ height_in 46 l → (j : ℕ) → j ≡ get_or (take 1 (drop 52 l)) 0 0 → (k : ℕ) → k ≡ get_or (take 1 (drop 55 l)) 0 0
+  pub heights-given : (a : ℕ) → a ≡ nat_in 11 4 l → (b : Option ℤ) → b ≡ height_in 17 l → (c : ℕ) → c ≡ get_or (take 1 (drop 23 l)) 0 0 → (d : Two) → d ≡ two (take 2 (drop 24 l))
+      → (e : ℕ) → e ≡ get_or (take 1 (drop 26 l)) 0 0 → (f : Two) → f ≡ two (take 2 (drop 27 l)) → (g : Option ℤ) → g ≡ height_in 36 l → (h : ℕ) → h ≡ get_or (take 1 (drop 42 l)) 0 0
+      → (i : Option ℤ) → i ≡ height_in 46 l → (j : ℕ) → j ≡ get_or (take 1 (drop 52 l)) 0 0 → (k : ℕ) → k ≡ get_or (take 1 (drop 55 l)) 0 0
       → {r : Heights} → r ≡ record { station = a; orthometric = b; code = c; class = d; indicator = e; datum = f; geoid = g; geoidcode = h; ellipsoid = i; ellipsoidcode = j; ellipsoiddatum = k }
       → r ≡ heights_in l
   unfolding heights_in

@@ -1,11 +1,10 @@
 -- The typed values of a line, each from its own columns.
-use Rattle.std.specs.Prelude.{true, List, ℕ, ℤ, get_or}
+use Rattle.std.specs.Prelude.{true, List, ℕ, ℤ, get_or, Option}
 use Rattle.rules.specs.Items.{gap, number, height, angle, month, media, value_of}
 use Rattle.rules.specs.Fields.{values}
 use Rattle.rules.specs.Layouts.{layouts, kept}
 use Rattle.rules.specs.Records.{code_at}
 use Rattle.columns.specs.declared.Way.{Way}
-use Rattle.columns.specs.declared.Height.{Height}
 use Rattle.columns.specs.Types.{nat_of, int_of, height_of, media_of, four, way_of}
 use Rattle.kinds.specs.declared.Job.{Job}
 use Rattle.kinds.specs.declared.Project.{Project}
@@ -28,7 +27,7 @@ nat_in c w l = nat_of (value_of (number 0 0 0 true) (part c w l))
 unfoldable pub month_in : ℕ → List ℕ → ℕ
 month_in c l = nat_of (value_of month (part c 6 l))
 
-unfoldable pub height_in : ℕ → List ℕ → Height
+unfoldable pub height_in : ℕ → List ℕ → Option ℤ
 height_in c l = height_of (value_of (height 0 0 0 true) (part c 7 l))
 
 unfoldable pub signed_in : ℕ → ℕ → List ℕ → ℤ

@@ -2,8 +2,8 @@
 ghost use Rattle.std.specs.Prelude.{◌≡◌, ◌≤◌, ◌-◌, ◌<◌, true, length, take, drop, get_or};
 ghost use Rattle.rules.specs.Items.{value_of, number};
 ghost use Rattle.rules.specs.Records.{sequence};
-ghost use Rattle.kinds.specs.Values.{sequence_of, two, three};
-ghost use Rattle.columns.specs.Types.{four, nat_of};
+ghost use Rattle.kinds.specs.Values.{two, three};
+ghost use Rattle.columns.specs.Types.{four, nat_of, count_of};
 ghost use Rattle.reading.specs.Values.{nat_in, month_in, signed_in, height_in, project_in, occupation_in, measurement_in, instrument_in, antenna_in, point_in, heights_in, network_in, local_in, factor_in, job_in, record_in};
 
 use columns::angles::read_angle;
@@ -11,19 +11,16 @@ use columns::heights::{read_height, read_signed};
 use columns::labels::read_media;
 use columns::numbers::{read_count, read_month, value_of};
 use columns::parts::{byte_at, middle};
-use columns::{Count, Four, Height, Way};
+use columns::{Four, Way};
 use kinds::{
     Antenna, Comment, Continuation, Factor, Heights, Instrument, Job, Local, Measurement, Network,
-    Occupation, Point, Project, Record, Sequence, Three, Title, Two,
+    Occupation, Point, Project, Record, Three, Title, Two,
 };
 
-pub fn read_sequence(line: &[u8]) -> Sequence
-    ensures { result ≡ sequence_of (value_of sequence (take 6 line.now)) }
+pub fn read_sequence(line: &[u8]) -> Option<u32>
+    ensures { result ≡ count_of (value_of sequence (take 6 line.now)) }
 {
-    match read_count(middle(line, Sequence::NUMBER - 1, Sequence::NUMBER_WIDTH)) {
-        Count::Missing => Sequence::Missing,
-        Count::Is(n) => Sequence::Number(n),
-    }
+    read_count(middle(line, Record::NUMBER - 1, Record::NUMBER_WIDTH))
 }
 
 // The number of some columns, 0 where they are blank.
@@ -31,10 +28,7 @@ fn number_of(part: &[u8]) -> u32
     requires { length part.now ≤ 8 }
     ensures { result ≡ nat_of (value_of (number 0 0 0 true) part.now) }
 {
-    match read_count(part) {
-        Count::Missing => 0,
-        Count::Is(n) => n,
-    }
+    read_count(part).unwrap_or(0)
 }
 
 // A number that is never missing. Columns that are all there have a width that the compiler knows.
@@ -60,7 +54,7 @@ fn month_in(line: &[u8], first: usize) -> u32
     read_month(middle(line, first - 1, Project::BEGAN_WIDTH))
 }
 
-fn height_in(line: &[u8], first: usize) -> Height
+fn height_in(line: &[u8], first: usize) -> Option<i32>
     requires { 1 ≤ first }
     ensures { result ≡ height_in first line.now }
 {
@@ -71,10 +65,7 @@ fn height_in(line: &[u8], first: usize) -> Height
 fn rise_in(line: &[u8]) -> i32
     ensures { result ≡ signed_in 56 5 line.now }
 {
-    match read_height(middle(line, Measurement::HEIGHT - 1, Measurement::HEIGHT_WIDTH)) {
-        Height::Missing => 0,
-        Height::Mm(z) => z,
-    }
+    read_height(middle(line, Measurement::HEIGHT - 1, Measurement::HEIGHT_WIDTH)).unwrap_or(0)
 }
 
 // The ten columns of a standard deviation or of a correlation. Whatever stands there fits 64 bits.

@@ -7,7 +7,7 @@ mod refusals;
 ghost use Rattle.std.specs.Prelude.{◌≡◌, length};
 ghost use Rattle.std.specs.Io.{ReadsAtMost};
 
-use kinds::{Reading, Record, Sequence, Written};
+use kinds::{Reading, Record, Written};
 use print::{number, show_fault, show_record, show_sequence, text};
 use refusals::write_refused;
 use std::io;
@@ -68,7 +68,13 @@ fn show_fields(rt: &impl Print, file: &[u8], r: usize) -> io::Result<()> {
 }
 
 // Written from the values and texts that were read, the record is in house style.
-fn write_back(rt: &impl Print, file: &[u8], r: usize, s: Sequence, what: Record) -> io::Result<()> {
+fn write_back(
+    rt: &impl Print,
+    file: &[u8],
+    r: usize,
+    s: Option<u32>,
+    what: Record,
+) -> io::Result<()> {
     let t = texts_of(what);
     let first = reading::field(file, r, t.first);
     let second = reading::field(file, r, t.second);

@@ -1,9 +1,8 @@
 // What is printed: words parted by blanks, a line for each thing.
-use columns::signs::{Split, SplitLong, split_long, split_sign};
-use columns::{Four, Height, Media};
+use columns::{Four, Media};
 use kinds::{
     Antenna, Fault, Heights, Local, Measurement, Network, Occupation, Point, Project, Record,
-    Sequence, Three, Two,
+    Three, Two,
 };
 use std::io;
 
@@ -24,29 +23,17 @@ fn byte(rt: &impl Print, b: u8) -> io::Result<()> {
 }
 
 fn signed(rt: &impl Print, z: i32) -> io::Result<()> {
-    match split_sign(z) {
-        Split::Plus(n) => count(rt, n),
-        Split::Minus(n) => {
-            text(rt, b"-")?;
-            count(rt, n)
-        }
-    }
+    print!(rt; "{z} ")
 }
 
 fn signed_long(rt: &impl Print, z: i64) -> io::Result<()> {
-    match split_long(z) {
-        SplitLong::Plus(n) => number(rt, n),
-        SplitLong::Minus(n) => {
-            text(rt, b"-")?;
-            number(rt, n)
-        }
-    }
+    print!(rt; "{z} ")
 }
 
-fn height(rt: &impl Print, h: Height) -> io::Result<()> {
+fn height(rt: &impl Print, h: Option<i32>) -> io::Result<()> {
     match h {
-        Height::Missing => text(rt, b"missing "),
-        Height::Mm(z) => signed(rt, z),
+        None => text(rt, b"missing "),
+        Some(z) => signed(rt, z),
     }
 }
 
@@ -85,10 +72,10 @@ pub(crate) fn show_fault(rt: &impl Print, f: Fault) -> io::Result<()> {
     text(rt, b"\n")
 }
 
-pub(crate) fn show_sequence(rt: &impl Print, s: Sequence) -> io::Result<()> {
+pub(crate) fn show_sequence(rt: &impl Print, s: Option<u32>) -> io::Result<()> {
     match s {
-        Sequence::Missing => text(rt, b"missing "),
-        Sequence::Number(n) => count(rt, n),
+        None => text(rt, b"missing "),
+        Some(n) => count(rt, n),
     }
 }
 

@@ -1,16 +1,14 @@
 // Values that write must refuse, each with the number and column that it answers, after two bytes of the output, which is left as it was.
 use crate::print::{show_fault, text};
-use columns::Height;
 use kinds::{
-    Factor, Heights, Job, Local, Measurement, Network, Point, Project, Record, Sequence, Three,
-    Two, Written,
+    Factor, Heights, Job, Local, Measurement, Network, Point, Project, Record, Three, Two, Written,
 };
 use std::io;
 
 // Writes into an output of dots.
 fn refused(
     rt: &impl Print,
-    sequence: Sequence,
+    sequence: Option<u32>,
     what: Record,
     first: &[u8],
     second: &[u8],
@@ -31,75 +29,39 @@ fn point(station: u32, latitude: i64, longitude: i64) -> Record {
 
 fn points(rt: &impl Print) -> io::Result<()> {
     let name = b"HILL 1931                     ";
-    refused(rt, Sequence::Missing, point(0, 0, 0), name, b"")?;
-    refused(rt, Sequence::Missing, point(10000, 0, 0), name, b"")?;
-    refused(
-        rt,
-        Sequence::Missing,
-        point(1, 32_400_000_001, 0),
-        name,
-        b"",
-    )?;
-    refused(
-        rt,
-        Sequence::Missing,
-        point(1, -32_400_000_001, 0),
-        name,
-        b"",
-    )?;
-    refused(
-        rt,
-        Sequence::Missing,
-        point(1, 0, 64_800_000_001),
-        name,
-        b"",
-    )?;
-    refused(
-        rt,
-        Sequence::Missing,
-        point(1, 0, -64_800_000_000),
-        name,
-        b"",
-    )
+    refused(rt, None, point(0, 0, 0), name, b"")?;
+    refused(rt, None, point(10000, 0, 0), name, b"")?;
+    refused(rt, None, point(1, 32_400_000_001, 0), name, b"")?;
+    refused(rt, None, point(1, -32_400_000_001, 0), name, b"")?;
+    refused(rt, None, point(1, 0, 64_800_000_001), name, b"")?;
+    refused(rt, None, point(1, 0, -64_800_000_000), name, b"")
 }
 
 fn more_points(rt: &impl Print) -> io::Result<()> {
     let name = b"HILL 1931                     ";
     refused(
         rt,
-        Sequence::Missing,
+        None,
         point(1, -32_400_000_000, -64_799_999_999),
         name,
         b"",
     )?;
+    refused(rt, None, point(1, 0, 64_800_000_000), b"HILL 1931", b"")?;
     refused(
         rt,
-        Sequence::Missing,
-        point(1, 0, 64_800_000_000),
-        b"HILL 1931",
-        b"",
-    )?;
-    refused(
-        rt,
-        Sequence::Missing,
+        None,
         point(1, 0, 0),
         b"HILL\t1931                     ",
         b"",
     )?;
-    refused(rt, Sequence::Number(0), point(0, 0, 0), name, b"")?;
-    refused(rt, Sequence::Number(1_000_000), point(1, 0, 0), name, b"")?;
-    refused(rt, Sequence::Number(999_999), point(1, 0, 0), name, b"")
+    refused(rt, Some(0), point(0, 0, 0), name, b"")?;
+    refused(rt, Some(1_000_000), point(1, 0, 0), name, b"")?;
+    refused(rt, Some(999_999), point(1, 0, 0), name, b"")
 }
 
 fn job(rt: &impl Print, first: u8, second: u8) -> io::Result<()> {
     let blank = b"                                                                      ";
-    refused(
-        rt,
-        Sequence::Missing,
-        Record::Job(Job::new(first, second)),
-        blank,
-        b"",
-    )
+    refused(rt, None, Record::Job(Job::new(first, second)), blank, b"")
 }
 
 fn jobs(rt: &impl Print) -> io::Result<()> {
@@ -113,7 +75,7 @@ fn project(rt: &impl Print, began: u32, ended: u32) -> io::Result<()> {
     let name = b"CRUZ J D          ";
     let initials = Three(b'J', b'D', b'C');
     let p = Project::new(began, ended, initials, initials, Two(b'M', b'D'));
-    refused(rt, Sequence::Missing, Record::Project(p), name, name)
+    refused(rt, None, Record::Project(p), name, name)
 }
 
 fn projects(rt: &impl Print) -> io::Result<()> {
@@ -125,7 +87,7 @@ fn projects(rt: &impl Print) -> io::Result<()> {
 
 fn measurement(rt: &impl Print, height: i32) -> io::Result<()> {
     let m = Measurement::new(1, 240201, 1315, height);
-    refused(rt, Sequence::Missing, Record::Measurement(m), b"", b"")
+    refused(rt, None, Record::Measurement(m), b"", b"")
 }
 
 fn measurements(rt: &impl Print) -> io::Result<()> {
@@ -137,10 +99,10 @@ fn measurements(rt: &impl Print) -> io::Result<()> {
 
 fn heights(
     rt: &impl Print,
-    orthometric: Height,
+    orthometric: Option<i32>,
     code: u8,
     indicator: u8,
-    geoid: Height,
+    geoid: Option<i32>,
     model: u8,
 ) -> io::Result<()> {
     let blank = Two(b' ', b' ');
@@ -153,13 +115,13 @@ fn heights(
         blank,
         geoid,
         model,
-        Height::Missing,
+        None,
         b' ',
         b' ',
     );
     refused(
         rt,
-        Sequence::Missing,
+        None,
         Record::Heights(h),
         b"      ",
         b"                        ",
@@ -167,26 +129,12 @@ fn heights(
 }
 
 fn all_heights(rt: &impl Print) -> io::Result<()> {
-    heights(rt, Height::Missing, b' ', b' ', Height::Missing, b' ')?;
-    heights(rt, Height::Missing, b'A', b' ', Height::Missing, b' ')?;
-    heights(rt, Height::Mm(0), b'A', b' ', Height::Missing, b' ')?;
-    heights(
-        rt,
-        Height::Mm(-1_000_000),
-        b'A',
-        b'Y',
-        Height::Missing,
-        b' ',
-    )?;
-    heights(rt, Height::Mm(-999_999), b'A', b'Y', Height::Mm(-500), b' ')?;
-    heights(
-        rt,
-        Height::Mm(10_000_000),
-        b'A',
-        b'Y',
-        Height::Mm(-500),
-        b'6',
-    )
+    heights(rt, None, b' ', b' ', None, b' ')?;
+    heights(rt, None, b'A', b' ', None, b' ')?;
+    heights(rt, Some(0), b'A', b' ', None, b' ')?;
+    heights(rt, Some(-1_000_000), b'A', b'Y', None, b' ')?;
+    heights(rt, Some(-999_999), b'A', b'Y', Some(-500), b' ')?;
+    heights(rt, Some(10_000_000), b'A', b'Y', Some(-500), b'6')
 }
 
 fn network(
@@ -198,13 +146,7 @@ fn network(
     scaled: u8,
 ) -> io::Result<()> {
     let n = Network::new(1, north, east, correlation, ellipsoid, scaled);
-    refused(
-        rt,
-        Sequence::Missing,
-        Record::Network(n),
-        b"               ",
-        b"",
-    )
+    refused(rt, None, Record::Network(n), b"               ", b"")
 }
 
 fn networks(rt: &impl Print) -> io::Result<()> {
@@ -226,7 +168,7 @@ fn local(
     comment: &[u8],
 ) -> io::Result<()> {
     let l = Local::new(standpoint, forepoint, north, 0, 0, 0, b'N');
-    refused(rt, Sequence::Missing, Record::Local(l), comment, b"")
+    refused(rt, None, Record::Local(l), comment, b"")
 }
 
 fn locals(rt: &impl Print) -> io::Result<()> {
@@ -242,7 +184,7 @@ fn locals(rt: &impl Print) -> io::Result<()> {
 fn factor(rt: &impl Print, horizontal: u32, vertical: u32) -> io::Result<()> {
     let comment = b"                                                      ";
     let f = Factor::new(horizontal, vertical);
-    refused(rt, Sequence::Missing, Record::Factor(f), comment, b"")
+    refused(rt, None, Record::Factor(f), comment, b"")
 }
 
 fn factors(rt: &impl Print) -> io::Result<()> {
@@ -257,7 +199,7 @@ fn factors(rt: &impl Print) -> io::Result<()> {
 fn too_short(rt: &impl Print) -> io::Result<()> {
     let mut out = [b'.'; 80];
     let job = Record::Job(Job::new(b'a', b'a'));
-    let w = writing::write(&mut out, Sequence::Number(0), job, b"", b"", b"");
+    let w = writing::write(&mut out, Some(0), job, b"", b"", b"");
     text(rt, &out[0..1])?;
     text(rt, &out[79..80])?;
     match w {

@@ -20,21 +20,22 @@ use Rattle.rules.proofs.Lawful.{good-fits}
 use Rattle.rules.proofs.FieldLaws.{is_ok_⨾, is_ok_check}
 use Rattle.rules.proofs.RecordLaws.{read_line_splits, line_meant, line_numbered}
 use Rattle.rules.proofs.RecordLaws as laws
-use Rattle.kinds.specs.declared.Sequence.{Sequence}
 use Rattle.kinds.specs.declared.Record.{Record}
 use Rattle.kinds.specs.declared.Reading.{Reading}
 use Rattle.kinds.specs.declared.Written.{Written}
-use Rattle.kinds.specs.Values.{sequence_of, sequence_value, kind_number, record_from, record_of, meaning_of, reading_of, written_of}
+use Rattle.kinds.specs.Values.{kind_number, record_from, record_of, meaning_of, reading_of, written_of}
 use Rattle.kinds.proofs.TableLaws.{each_kind}
 use Rattle.reading.specs.Promise.{PromisedReading, PromisedPart}
 use Rattle.writing.specs.Promise.{Promised}
 use Rattle.round_trips.specs.Texts.{text_columns, text_at}
 use Rattle.round_trips.proofs.MeaningBack.{texts_of, meaning_back}
 use Rattle.round_trips.proofs.TextsBack.{text_in_line}
+use Rattle.std.specs.Prelude.{Option}
+use Rattle.columns.specs.Types.{count_of, count_value}
 
 -- a sequence number by way of its type
-number_back : (v : Value) → fits sequence v ≡ true → sequence_value (sequence_of v) ≡ v
-unfolding sequence fits on_number sequence_value sequence_of
+number_back : (v : Value) → fits sequence v ≡ true → count_value (count_of v) ≡ v
+unfolding sequence fits on_number count_value count_of
 number_back gap h = cc
 number_back missing h = refl
 number_back (num (pos n)) h = refl
@@ -48,10 +49,10 @@ unfolding kind_number record_from
 kind_from_lem k c v h = each_kind (λ k. kind_number (record_from k c v) ≡ k) refl refl refl refl refl refl refl refl refl refl refl refl refl refl k (omega (arith, h))
 
 -- ---- read's answer, taken apart
-module _ (s : Sequence) (w : Record) where
+module _ (s : Option ℕ) (w : Record) where
   record Taken (l : List ℕ) (v : Verdict) : Type 0 where
     pub reads : is_ok v ≡ true
-    pub number : s ≡ sequence_of (value_of sequence (take 6 l))
+    pub number : s ≡ count_of (value_of sequence (take 6 l))
     pub values : w ≡ record_of (meaning chapter4 l)
 
   taken_as_lem : (n : ℕ) (l : List ℕ) (v : Verdict) → Reading.Values s w ≡ reading_of (read_as n l v) → Taken l v
@@ -70,7 +71,7 @@ module _ (s : Sequence) (w : Record) where
   unfolding read_of
   taken file n e = taken_as_lem n (line_at file (n - 1)) (read_line chapter4 (line_at file (n - 1))) (e ∙ rw (begun_there file n e) refl)
 
-module _ (file : List ℕ) (n : ℕ) (s : Sequence) (w : Record) (was_read : PromisedReading file n (Reading.Values s w)) where
+module _ (file : List ℕ) (n : ℕ) (s : Option ℕ) (w : Record) (was_read : PromisedReading file n (Reading.Values s w)) where
   abbrev line : List ℕ
   line = line_at file (n - 1)
 
@@ -83,9 +84,9 @@ module _ (file : List ℕ) (n : ℕ) (s : Sequence) (w : Record) (was_read : Pro
   is_formed_lem : formed_line chapter4 line ≡ true
   is_formed_lem = (both (sym (read_line_splits chapter4 line) ∙ reads)).0
 
-  same_number : sequence_value s ≡ value_of sequence (take 6 line)
+  same_number : count_value s ≡ value_of sequence (take 6 line)
   same_number =
-      ap sequence_value (taken s w file n promised).number
+      ap count_value (taken s w file n promised).number
       ∙ number_back (value_of sequence (take 6 line)) (good-fits sequence (take 6 line) (line_numbered chapter4 line is_formed_lem))
 
   same_kind : kind_number w ≡ kind_of (code_at line)
@@ -106,7 +107,7 @@ module _ (file : List ℕ) (n : ℕ) (s : Sequence) (w : Record) (was_read : Pro
         (meaning_back (meaning chapter4 line) (line_meant chapter4 line is_formed_lem))
 
     -- with room for a record, the values and texts that were read are taken
-    is_taken : (out : List ℕ) → 81 ≤ length out → is_ok (write_verdict (length out) (kind_number w) (sequence_value s) (meaning_of w x y z)) ≡ true
+    is_taken : (out : List ℕ) → 81 ≤ length out → is_ok (write_verdict (length out) (kind_number w) (count_value s) (meaning_of w x y z)) ≡ true
     unfolding write_verdict
     is_taken out room =
         rw (same_kind, same_number, same_meaning)

@@ -15,21 +15,22 @@ use Rattle.rules.specs.Kinds.{kind_of}
 use Rattle.rules.specs.Layouts.{at, kept, layouts, layout}
 use Rattle.rules.specs.Calls.{read_as, read_of, field_of}
 use Rattle.rules.specs.Chapter4.{chapter4}
-use Rattle.kinds.specs.declared.Sequence.{Sequence}
 use Rattle.kinds.specs.declared.Record.{Record}
 use Rattle.kinds.specs.declared.Record.TheVariants as R
 use Rattle.kinds.specs.declared.Reading.{Reading}
 use Rattle.kinds.specs.declared.Written.{Written}
-use Rattle.kinds.specs.Values.{text_of, sequence_of, kind_number, values_of, meaning_of, record_of, reading_of}
+use Rattle.kinds.specs.Values.{text_of, kind_number, values_of, meaning_of, record_of, reading_of}
 use Rattle.reading.specs.Promise.{PromisedReading, PromisedPart}
 use Rattle.writing.specs.Promise.{Promised}
 use Rattle.writing.proofs.WriteLaws.{done_reads_back, done_number, done_record}
 use Rattle.round_trips.specs.Texts.{is_long, long_columns, text_columns, text_at}
 use Rattle.round_trips.proofs.MeaningBack.{texts, texts_of}
 use Rattle.round_trips.proofs.TextsBack.{text_in_line}
+use Rattle.std.specs.Prelude.{Option}
+use Rattle.columns.specs.Types.{count_of}
 
 read_ok : (n : ℕ) (l : List ℕ) (v : Verdict) → is_ok v ≡ true
-    → reading_of (read_as n l v) ≡ Reading.Values (sequence_of (value_of sequence (take 6 l))) (record_of (meaning chapter4 l))
+    → reading_of (read_as n l v) ≡ Reading.Values (count_of (value_of sequence (take 6 l))) (record_of (meaning chapter4 l))
 unfolding read_as reading_of is_ok
 read_ok n l ok h = refl
 read_ok n l (fault a b) h = cc
@@ -53,7 +54,7 @@ texts-given (R.Network r) a b c = refl
 texts-given (R.Local r) a b c = refl
 texts-given (R.Factor r) a b c = refl
 
-module _ (s : Sequence) (w : Record) (a b c out : List ℕ) {left : List ℕ} (p : Promised s w a b c out Written.Done left) where
+module _ (s : Option ℕ) (w : Record) (a b c out : List ℕ) {left : List ℕ} (p : Promised s w a b c out Written.Done left) where
   -- wherever the 81 bytes that write left stand as record n of a file
   module _ (file : List ℕ) (n : ℕ) (there : within 1 99_999 n & n ≤? begun file ≡ true) (e : line_at file (n - 1) ≡ take 81 left) where
     -- every answer that read's promise allows has the values that were written

@@ -12,7 +12,7 @@ use columns::heights::{put_height, put_signed};
 use columns::labels::put_media;
 use columns::numbers::put_count;
 use columns::writers::{put_digits, put_text};
-use columns::{Count, Four, Height, Media, Way};
+use columns::{Four, Media, Way};
 use kinds::{Three, Two};
 
 fn has_room(n: usize, column: usize, w: usize) -> bool
@@ -27,7 +27,7 @@ fn has_room(n: usize, column: usize, w: usize) -> bool
     w <= n - (column - 1)
 }
 
-pub fn lay_count(line: &mut [u8], column: usize, w: usize, c: Count)
+pub fn lay_count(line: &mut [u8], column: usize, w: usize, c: Option<u32>)
     ensures { line.new ≡ lay column (render (number w 0 0 true) (count_value c)) line.old }
 {
     if has_room(line.len(), column, w) {
@@ -48,17 +48,17 @@ pub fn lay_long(line: &mut [u8], column: usize, w: usize, n: u64)
 pub fn lay_number(line: &mut [u8], column: usize, w: usize, n: u32)
     ensures { line.new ≡ lay column (put w n) line.old }
 {
-    lay_count(line, column, w, Count::Is(n));
+    lay_count(line, column, w, Some(n));
 }
 
 pub fn lay_blank(line: &mut [u8], column: usize, w: usize)
     ensures { line.new ≡ lay column (replicate w 32) line.old }
 {
-    lay_count(line, column, w, Count::Missing);
+    lay_count(line, column, w, None);
 }
 
 pub fn lay_signed(line: &mut [u8], column: usize, w: usize, z: i64)
-    ensures { line.new ≡ lay column (height_columns w (Height.Mm z)) line.old }
+    ensures { line.new ≡ lay column (height_columns w (Some z)) line.old }
 {
     if has_room(line.len(), column, w) {
         let at = column - 1;
@@ -66,7 +66,7 @@ pub fn lay_signed(line: &mut [u8], column: usize, w: usize, z: i64)
     }
 }
 
-pub fn lay_height(line: &mut [u8], column: usize, w: usize, h: Height)
+pub fn lay_height(line: &mut [u8], column: usize, w: usize, h: Option<i32>)
     ensures { line.new ≡ lay column (height_columns w h) line.old }
 {
     if has_room(line.len(), column, w) {

@@ -16,7 +16,7 @@ use columns::sets::all_blank;
 use columns::writers::put_text;
 use kinds::accuracies::{CORRELATION, EAST, ELLIPSOID};
 use kinds::{
-    Antenna, Factor, Heights, Instrument, Local, Measurement, Network, Occupation, Point, Sequence,
+    Antenna, Factor, Heights, Instrument, Local, Measurement, Network, Occupation, Point, Record,
 };
 
 // What stands before the digits of a number, signed or not, is a zero in house style.
@@ -264,7 +264,7 @@ pub fn restyle(line: &[u8], kind: usize, number: u32, out: &mut [u8])
     ensures { out.new ≡ line_of chapter4 (num (pos number)) (meaning chapter4 line.now) }
 {
     put_text(out, line);
-    lay_number(out, Sequence::NUMBER, Sequence::NUMBER_WIDTH, number);
+    lay_number(out, Record::NUMBER, Record::NUMBER_WIDTH, number);
     style_fields(out, kind);
     lay_one(out, 81, 10);
 }

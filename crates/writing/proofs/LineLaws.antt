@@ -15,22 +15,21 @@ use Rattle.rules.specs.Chapter4.{chapter4}
 use Rattle.rules.specs.Calls.{write_verdict, write_output}
 use Rattle.rules.proofs.Truth.{both, of≤, to≡, of>}
 use Rattle.rules.proofs.RecordLaws.{write_takes}
-use Rattle.columns.specs.declared.Count.{Count}
 use Rattle.columns.specs.Types.{count_value, media_value}
 use Rattle.kinds.specs.declared.Occupation.{Occupation}
 use Rattle.kinds.specs.declared.Point.{Point}
-use Rattle.kinds.specs.declared.Sequence.{Sequence}
 use Rattle.kinds.specs.declared.Record.{Record}
 use Rattle.kinds.specs.declared.Record.TheVariants as R
 use Rattle.kinds.specs.declared.Judged.{Judged}
 use Rattle.kinds.specs.declared.Written.{Written}
-use Rattle.kinds.specs.Values.{kind_number, code_of, values_of, meaning_of, sequence_value, judged_of, written_of}
+use Rattle.kinds.specs.Values.{kind_number, code_of, values_of, meaning_of, judged_of, written_of}
 use Rattle.kinds.proofs.ValueLaws.{good_is, bad_is}
 use Rattle.given_records.specs.Judging.{layout_of}
 use Rattle.given_records.proofs.GivenLaws.{layout_is, told_is}
 use Rattle.styling.specs.Laying.{lay, lay_fields}
 use Rattle.styling.proofs.LayLaws.{line_laid}
 use Rattle.writing.specs.Promise.{Promised}
+use Rattle.std.specs.Prelude.{Option}
 
 -- ---- values that were judged good
 module _ (r : Record) (q : Value) (a b c : List ℕ) (h : is_ok (judge_given chapter4 (kind_number r) q (meaning_of r a b c)) ≡ true) where
@@ -52,9 +51,9 @@ module _ (r : Record) (q : Value) (a b c : List ℕ) (h : is_ok (judge_given cha
   given-laid l e = rw (← layout_is r a b c taken.1) (line_laid q (meaning_of r a b c) l e taken.0 taken.2)
 
 -- a count is written as a sequence number is
-pub sequence_count_lem : (x : Count) {q : Value} → count_value x ≡ q → render (number 6 0 0 true) (count_value x) ≡ render sequence q
+pub sequence_count_lem : (x : Option ℕ) → render (number 6 0 0 true) (count_value x) ≡ render sequence (count_value x)
 unfolding render sequence
-sequence_count_lem x e = rw e
+sequence_count_lem x = refl
 
 -- the media identifier and the angles, which a field leaves alone if they do not fit
 module _ (a b c : List ℕ) {w : Record} (h : formed (entries_of (layout_of (kind_number w)) (values_of w a b c)) ≡ true) where
@@ -70,20 +69,20 @@ module _ (a b c : List ℕ) {w : Record} (h : formed (entries_of (layout_of (kin
 pub judged_good : (v : Verdict) {j : Judged} → j ≡ judged_of v → j ≡ Judged.Good → is_ok v ≡ true
 judged_good v e h = ap is_ok (good_is v (sym e ∙ h)) ∙ unfold is_ok in refl
 
-module _ (s : Sequence) (w : Record) (a b c out : List ℕ) where
+module _ (s : Option ℕ) (w : Record) (a b c out : List ℕ) where
   pub write_short : length out < 81 → Promised s w a b c out (Written.Refused record { number = 1; «record» = 0; column = 0 }) out
   unfolding written_of write_verdict write_output check ◌⨾◌ is_ok
   write_short h = let e : 81 ≤? length out ≡ false = of> h in record { answer = sym (rw e); output = sym (rw e) }
 
-  module _ (h : 81 ≤ length out) {j : Judged} (g : j ≡ judged_of (judge_given chapter4 (kind_number w) (sequence_value s) (meaning_of w a b c))) where
-    verdict_is : write_verdict (length out) (kind_number w) (sequence_value s) (meaning_of w a b c) ≡ judge_given chapter4 (kind_number w) (sequence_value s) (meaning_of w a b c)
+  module _ (h : 81 ≤ length out) {j : Judged} (g : j ≡ judged_of (judge_given chapter4 (kind_number w) (count_value s) (meaning_of w a b c))) where
+    verdict_is : write_verdict (length out) (kind_number w) (count_value s) (meaning_of w a b c) ≡ judge_given chapter4 (kind_number w) (count_value s) (meaning_of w a b c)
     unfolding write_verdict check ◌⨾◌
     verdict_is = rw (of≤ h)
 
     pub write_bad : (n d : ℕ) → j ≡ Judged.Bad n d → Promised s w a b c out (Written.Refused record { number = n; «record» = 0; column = d }) out
     unfolding written_of write_output is_ok
-    write_bad n d z = let e = verdict_is ∙ bad_is (judge_given chapter4 (kind_number w) (sequence_value s) (meaning_of w a b c)) n d (sym g ∙ z) in record { answer = sym (rw e); output = sym (rw e) }
+    write_bad n d z = let e = verdict_is ∙ bad_is (judge_given chapter4 (kind_number w) (count_value s) (meaning_of w a b c)) n d (sym g ∙ z) in record { answer = sym (rw e); output = sym (rw e) }
 
-    pub write_good : {line : List ℕ} → j ≡ Judged.Good → line ≡ line_of chapter4 (sequence_value s) (meaning_of w a b c) → Promised s w a b c out Written.Done (put_mid 0 81 out line)
+    pub write_good : {line : List ℕ} → j ≡ Judged.Good → line ≡ line_of chapter4 (count_value s) (meaning_of w a b c) → Promised s w a b c out Written.Done (put_mid 0 81 out line)
     unfolding written_of write_output is_ok
-    write_good z d = let e = verdict_is ∙ good_is (judge_given chapter4 (kind_number w) (sequence_value s) (meaning_of w a b c)) (sym g ∙ z) in record { answer = sym (rw e); output = sym (rw (e, d)) }
+    write_good z d = let e = verdict_is ∙ good_is (judge_given chapter4 (kind_number w) (count_value s) (meaning_of w a b c)) (sym g ∙ z) in record { answer = sym (rw e); output = sym (rw (e, d)) }

@@ -3,7 +3,7 @@
 #![tactic(auto)]
 
 use given_records::records::judge_given;
-use kinds::{Fault, Judged, Record, Sequence, Written};
+use kinds::{Fault, Judged, Record, Written};
 
 mod lines;
 
@@ -14,7 +14,7 @@ use lines::lay_line;
 // Texts of more than four columns are given beside the record, in column order; a record that has fewer takes no notice of the rest.
 pub fn write(
     out: &mut [u8],
-    sequence: Sequence,
+    sequence: Option<u32>,
     what: Record,
     first: &[u8],
     second: &[u8],

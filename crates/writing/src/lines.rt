@@ -5,19 +5,18 @@ ghost use Rattle.rules.specs.Fields.{is_ok, entries_of, formed};
 ghost use Rattle.rules.specs.Records.{judge_given, line_of};
 ghost use Rattle.rules.specs.Layouts.{project, occupation, measurement, receiver, aerial, point, heights, network, local, factor};
 ghost use Rattle.rules.specs.Chapter4.{chapter4};
-ghost use Rattle.columns.specs.Types.{media_value, four_of};
-ghost use Rattle.kinds.specs.Values.{sequence_value, kind_number, code_of, meaning_of, values_of};
+ghost use Rattle.columns.specs.Types.{media_value, four_of, count_value};
+ghost use Rattle.kinds.specs.Values.{kind_number, code_of, meaning_of, values_of};
 ghost use Rattle.kinds.specs.declared.Record.TheVariants as R;
 ghost use Rattle.given_records.specs.Accuracies.{accuracy_fields, accuracy_values};
 ghost use Rattle.given_records.specs.Judging.{layout_of};
 ghost use Rattle.styling.specs.Laying.{lay_fields};
 
-use columns::{Four, Height, Way};
-use given_records::records::count_of;
+use columns::{Four, Way};
 use kinds::accuracies::{CORRELATION, EAST, ELLIPSOID, SCALED, SPACER};
 use kinds::{
     Antenna, Comment, Continuation, Factor, Heights, Instrument, Job, Local, Measurement, Network,
-    Occupation, Point, Project, Record, Sequence, Title,
+    Occupation, Point, Project, Record, Title,
 };
 use styling::laying::{
     lay_angle, lay_blank, lay_count, lay_four, lay_height, lay_long, lay_media, lay_number,
@@ -83,7 +82,7 @@ fn lay_measurement(line: &mut [u8], m: Measurement)
         line,
         Measurement::HEIGHT,
         Measurement::HEIGHT_WIDTH,
-        Height::Mm(m.height),
+        Some(m.height),
     );
     lay_blank(line, Measurement::END, Measurement::END_WIDTH);
 }
@@ -325,11 +324,11 @@ fn code_of(what: Record) -> Four
 }
 
 // A line of 81 bytes, of values that were judged good.
-pub(crate) fn lay_line(line: &mut [u8], s: Sequence, what: Record, a: &[u8], b: &[u8], c: &[u8])
-    requires { (length line.old ≡ 81) × (is_ok (judge_given chapter4 (kind_number what) (sequence_value s) (meaning_of what a.now b.now c.now)) ≡ true) }
-    ensures { line.new ≡ line_of chapter4 (sequence_value s) (meaning_of what a.now b.now c.now) }
+pub(crate) fn lay_line(line: &mut [u8], s: Option<u32>, what: Record, a: &[u8], b: &[u8], c: &[u8])
+    requires { (length line.old ≡ 81) × (is_ok (judge_given chapter4 (kind_number what) (count_value s) (meaning_of what a.now b.now c.now)) ≡ true) }
+    ensures { line.new ≡ line_of chapter4 (count_value s) (meaning_of what a.now b.now c.now) }
 {
-    lay_count(line, Sequence::NUMBER, Sequence::NUMBER_WIDTH, count_of(s));
+    lay_count(line, Record::NUMBER, Record::NUMBER_WIDTH, s);
     lay_four(line, 7, code_of(what));
     lay_values(line, what, a, b, c);
     lay_one(line, 81, 10);

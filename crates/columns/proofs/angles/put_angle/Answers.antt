@@ -1,29 +1,27 @@
--- Too wide or narrow, unfit, or written with the letter of its sign. Assumes nothing.
+-- Too wide or narrow, unfit, or written with the letter of its side. Assumes nothing.
 use mathlib.Core.Path.{◌≡◌, sym, ap, ◌∙◌}
 use native.Mathlib.Omega.{arith}
-use mathlib.Core.Bool.{Bool}
+use mathlib.Core.Bool.{Bool, true, cond}
 use mathlib.Core.List.{◌++◌, ◌∷◌, []}
 use Prim.Native.Nat.{◌-◌}
 use lib.ListN.{length}
-use lib.IntN.{ℤ}
+use lib.IntN.{ℤ, pos}
+use lib.Signed.{lt_z}
 use mir.Syntax.{w64}
 use mir.Val.{SFits, to_z, of_z}
 use mir.ValLaws.{to_z-of_z}
 use Rattle.rules.specs.Digits.{put}
 use Rattle.rules.specs.Items.{angle, num, fits, dms, columns}
 use Rattle.columns.specs.Types.{way_of}
-use Rattle.columns.specs.Leaves.{split_long_of}
 use Rattle.columns.specs.declared.Way.{Way}
 use Rattle.columns.proofs.WriteLaws.{kept-wide, kept_unfit, now_written}
-use Rattle.columns.proofs.AngleLaws.{agrees, few, angle-wide_is, plus_small, minus_small, plus-render, minus-render}
+use Rattle.columns.proofs.AngleLaws.{agrees, few, angle-wide_is, angle_size, angle-render}
 use Rattle.columns.proofs.angles.put_angle.Goals as goal
+use Rattle.columns.proofs.angles.put_angle.Goals.{then-z-lt0, else-z-lt0}
 
--- z comes to a call and back as it is: what is said of it there is said of z
-back : {A : Type 0} (f : ℤ → A) {z : ℤ} {x : A} → SFits w64 z → x ≡ f (to_z w64 (of_z w64 z)) → x ≡ f z
-back f {z} k e = e ∙ ap f (to_z-of_z w64 z k)
-
+-- z comes to a call and back as it is
 fitting : (way : Way) {z : ℤ} {b : Bool} → SFits w64 z → b ≡ fits (angle (way_of way)) (num (to_z w64 (of_z w64 z))) → b ≡ fits (angle (way_of way)) (num z)
-fitting way = back (λ z. fits (angle (way_of way)) (num z))
+fitting way k e = e ∙ ap (λ z. fits (angle (way_of way)) (num z)) (to_z-of_z w64 _ k)
 
 pub overflow_add-l : goal.overflow_add-l
 overflow_add-l c = omega (arith, few (agrees c.args.way c.limits_of-l.ensures))
@@ -37,31 +35,15 @@ returns-then-not-angle_fits c = let a = c.args in kept_unfit (angle (way_of a.wa
 pub put_size-requires : goal.put_size-requires
 put_size-requires c =
     let a = c.args in
-    (omega (arith, c.if-out-l.false), plus_small (way_of a.way) a.z (sym (fitting c.args.way c.ranges.z c.angle_fits.ensures) ∙ c.if-not-angle_fits.false) (sym (back split_long_of c.ranges.z c.split_long.ensures) ∙ c.in-Plus.is))
+    (omega (arith, c.if-out-l.false), angle_size (way_of a.way) a.z (sym (fitting c.args.way c.ranges.z c.angle_fits.ensures) ∙ c.if-not-angle_fits.false) (to_z-of_z w64 _ c.ranges.z) c.unsigned_abs.ensures.value)
 
-pub put_size-requires-in-Minus : goal.put_size-requires-in-Minus
-put_size-requires-in-Minus c =
-    let a = c.args in
-    (omega (arith, c.if-out-l.false), minus_small (way_of a.way) a.z (sym (fitting c.args.way c.ranges.z c.angle_fits.ensures) ∙ c.if-not-angle_fits.false) (sym (back split_long_of c.ranges.z c.split_long.ensures) ∙ c.in-Minus.is))
-
-pub returns-in-Plus : goal.returns-in-Plus
-returns-in-Plus c =
+pub returns : goal.returns
+returns c =
     let a = c.args in
     let g = agrees c.args.way c.limits_of-l.ensures in
     let e : length a.out.now - 1 ≡ columns (way_of a.way) = omega (arith, c.if-out-l.false, g.wide) in
     now_written (angle (way_of a.way)) (num a.z) a.out.now (c.if-out-l.false ∙ sym (angle-wide_is g)) (sym (fitting c.args.way c.ranges.z c.angle_fits.ensures) ∙ c.if-not-angle_fits.false)
     (c.put_size.ensures
-    ∙ ap (λ k. put k (dms c.in-Plus.m) ++ c.limits_of-l.result.plus ∷ []) e
-    ∙ ap (λ l. put (columns (way_of a.way)) (dms c.in-Plus.m) ++ l ∷ []) g.east
-    ∙ plus-render (way_of a.way) a.z (sym (back split_long_of c.ranges.z c.split_long.ensures) ∙ c.in-Plus.is))
-
-pub returns-in-Minus : goal.returns-in-Minus
-returns-in-Minus c =
-    let a = c.args in
-    let g = agrees c.args.way c.limits_of-l.ensures in
-    let e : length a.out.now - 1 ≡ columns (way_of a.way) = omega (arith, c.if-out-l.false, g.wide) in
-    now_written (angle (way_of a.way)) (num a.z) a.out.now (c.if-out-l.false ∙ sym (angle-wide_is g)) (sym (fitting c.args.way c.ranges.z c.angle_fits.ensures) ∙ c.if-not-angle_fits.false)
-    (c.put_size-in-Minus.ensures
-    ∙ ap (λ k. put k (dms c.in-Minus.m) ++ c.limits_of-l.result.minus ∷ []) e
-    ∙ ap (λ l. put (columns (way_of a.way)) (dms c.in-Minus.m) ++ l ∷ []) g.west
-    ∙ minus-render (way_of a.way) a.z (sym (back split_long_of c.ranges.z c.split_long.ensures) ∙ c.in-Minus.is))
+    ∙ ap (λ k. put k (dms c.unsigned_abs.result) ++ c.if-z-lt0.letter ∷ []) e
+    ∙ angle-render g a.z (to_z-of_z w64 _ c.ranges.z) c.unsigned_abs.ensures.value
+    (elim c.if-z-lt0.branch [ then-z-lt0 w ↦ rw w.if-z-lt0.true w.letter-is | else-z-lt0 w ↦ rw w.if-z-lt0.false w.letter-is ]))

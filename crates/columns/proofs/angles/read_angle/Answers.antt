@@ -10,15 +10,15 @@ use Rattle.columns.specs.Types.{way_of}
 use Rattle.columns.proofs.AngleLaws.{Agrees, agrees, angle-read, angle_small}
 use Rattle.columns.proofs.angles.read_angle.Goals as goal
 
-known : (c : goal.After-with_sign_long) → Agrees c.limits_of-l.result (way_of c.args.way)
+known : (c : goal.After-with_sign) → Agrees c.limits_of-l.result (way_of c.args.way)
 known c = agrees c.args.way c.limits_of-l.ensures
 
-pub with_sign_long-requires : goal.with_sign_long-requires
-with_sign_long-requires c = rw c.angle_of-m.ensures (angle_small c.value_of.result c.value_of.type_inv)
+pub with_sign-requires : goal.with_sign-requires
+with_sign-requires c = rw c.angle_of-m.ensures (angle_small c.value_of.result c.value_of.type_inv)
 
 pub returns : goal.returns
 returns c =
-    to_z-of_z w64 _ (record { sfits = c.with_sign_long.type_inv })
+    to_z-of_z w64 _ (record { sfits = c.with_sign.type_inv })
     ∙ angle-read (known c) c.args.part.now
     (c.value_of.ensures ∙ ap (λ d. cond (length d ≤? 16) (val 0 d) 0) c.middle.ensures)
-    c.angle_of-m.ensures c.byte_at-letter.ensures c.with_sign_long.ensures
+    c.angle_of-m.ensures c.byte_at-letter.ensures c.with_sign.ensures

@@ -7,8 +7,8 @@ use Rattle.columns.proofs.heights.height_fits.Goals as goal
 pub overflow_cast-z : goal.overflow_cast-z
 overflow_cast-z c = search (widens, rules)
 
-pub returns-in-Missing : goal.returns-in-Missing
-returns-in-Missing c = search (height-missing, rules)
+pub returns-in-None : goal.returns-in-None
+returns-in-None c = search (height-missing, rules)
 
-pub returns-in-Mm : goal.returns-in-Mm
-returns-in-Mm c = search (height_is, widened, rules)
+pub returns-in-Some : goal.returns-in-Some
+returns-in-Some c = search (height_is, widened, rules)

@@ -12,10 +12,10 @@ use Rattle.columns.proofs.heights.read_signed.Goals as goal
 pub returns-then-part-gt16 : goal.returns-then-part-gt16
 returns-then-part-gt16 c = sym (rw (of> c.if-part-gt16.true))
 
-pub with_sign_long-requires : goal.with_sign_long-requires
-with_sign_long-requires c = omega (arith, c.sum.ensures.small, pow_most (length c.args.part.now) 16 (omega arith))
+pub with_sign-requires : goal.with_sign-requires
+with_sign-requires c = omega (arith, c.sum.ensures.small, pow_most (length c.args.part.now) 16 (omega arith))
 
 pub returns : goal.returns
 returns c =
     sym (rw (of≤ c.if-part-gt16.false)
-    (sym (signed_value c.args.part.now c.has_minus-negative.ensures c.sum.ensures.is (to_z-of_z w64 _ (record { sfits = c.with_sign_long.type_inv }) ∙ c.with_sign_long.ensures))))
+    (sym (signed_value c.args.part.now c.has_minus-negative.ensures c.sum.ensures.is (to_z-of_z w64 _ (record { sfits = c.with_sign.type_inv }) ∙ c.with_sign.ensures))))

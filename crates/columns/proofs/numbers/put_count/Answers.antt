@@ -3,8 +3,8 @@ use lib.ListN.{length}
 use Rattle.columns.proofs.WriteLaws.{count_blanks, count_digits}
 use Rattle.columns.proofs.numbers.put_count.Goals as goal
 
-pub returns-in-Missing : goal.returns-in-Missing
-returns-in-Missing c = count_blanks (length c.args.out.now) c.in-Missing.is c.put_blank.ensures
+pub returns-in-None : goal.returns-in-None
+returns-in-None c = count_blanks (length c.args.out.now) c.in-None.is c.put_blank.ensures
 
-pub returns-in-Is : goal.returns-in-Is
-returns-in-Is c = count_digits (length c.args.out.now) c.in-Is.is c.put_digits.ensures
+pub returns-in-Some : goal.returns-in-Some
+returns-in-Some c = count_digits (length c.args.out.now) c.in-Some.is c.put_digits.ensures

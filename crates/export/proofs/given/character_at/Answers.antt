@@ -1,12 +1,12 @@
-use Rattle.export.proofs.GivenLaws.{held_fits, held_large, held_below}
-use borrow.Author.Rules.{rules}
+use Rattle.std.proofs.Common.{refl, sym, ap, ◌∙◌}
+use mir.Syntax.{w64}
+use mir.ValLaws.{to_z-of_z}
+use Rattle.answers.specs.Given.{held_or}
+use Rattle.export.proofs.GivenLaws.{held_try}
 use Rattle.export.proofs.given.character_at.Goals as goal
 
-pub returns-then-n-le255 : goal.returns-then-n-le255
-returns-then-n-le255 c = search (held_fits, rules)
-
-pub returns-else-n-le255 : goal.returns-else-n-le255
-returns-else-n-le255 c = search (held_large, rules)
-
-pub returns-in-Minus : goal.returns-in-Minus
-returns-in-Minus c = search (held_below, rules)
+pub returns : goal.returns
+returns c =
+    c.unwrap_or.ensures
+    ∙ held_try 8 255 0 _ _ refl c.try_from.ensures
+    ∙ ap (held_or 255 0) (to_z-of_z w64 _ (record { sfits = c.word_at.type_inv }) ∙ c.word_at.ensures)

@@ -1,15 +1,13 @@
-use Rattle.export.proofs.GivenLaws.{sequence_fits, sequence_large, sequence_none, sequence_below}
-use borrow.Author.Rules.{rules}
+-- -1, or another word. Assumes nothing.
+use Rattle.std.proofs.Common.{refl, sym, ap, ◌∙◌}
+use mir.Syntax.{w64}
+use mir.Val.{of_z}
+use Rattle.export.proofs.GivenLaws.{sequence_none, sequence_some}
+use Rattle.answers.specs.Given.{sequence_of}
 use Rattle.export.proofs.given.give_sequence.Goals as goal
 
-pub returns-then-n-le4294967294 : goal.returns-then-n-le4294967294
-returns-then-n-le4294967294 c = search (sequence_fits, rules)
+pub returns-then-word_at-eq18446744073709551615 : goal.returns-then-word_at-eq18446744073709551615
+returns-then-word_at-eq18446744073709551615 c = sequence_none _ (record { sfits = c.word_at.type_inv }) c.if-word_at-eq18446744073709551615.true ∙ ap sequence_of c.word_at.ensures
 
-pub returns-else-n-le4294967294 : goal.returns-else-n-le4294967294
-returns-else-n-le4294967294 c = search (sequence_large, rules)
-
-pub returns-then-n-eq1 : goal.returns-then-n-eq1
-returns-then-n-eq1 c = search (sequence_none, rules)
-
-pub returns-else-n-eq1 : goal.returns-else-n-eq1
-returns-else-n-eq1 c = search (sequence_below, rules)
+pub returns : goal.returns
+returns c = sequence_some _ (λ e. c.if-word_at-eq18446744073709551615.false (ap (of_z w64) c.word_at.ensures ∙ e)) c.number_at.ensures

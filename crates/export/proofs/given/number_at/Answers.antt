@@ -1,12 +1,13 @@
-use Rattle.export.proofs.GivenLaws.{held_fits, held_large, held_below}
-use borrow.Author.Rules.{rules}
+use Rattle.std.proofs.Common.{refl, sym, ap, ◌∙◌}
+use mir.Syntax.{w64}
+use mir.ValLaws.{to_z-of_z}
+use Rattle.answers.specs.Given.{held_or}
+use Rattle.export.proofs.GivenLaws.{held_try, held_top}
 use Rattle.export.proofs.given.number_at.Goals as goal
 
-pub returns-then-n-le4294967294 : goal.returns-then-n-le4294967294
-returns-then-n-le4294967294 c = search (held_fits, rules)
-
-pub returns-else-n-le4294967294 : goal.returns-else-n-le4294967294
-returns-else-n-le4294967294 c = search (held_large, rules)
-
-pub returns-in-Minus : goal.returns-in-Minus
-returns-in-Minus c = search (held_below, rules)
+pub returns : goal.returns
+returns c =
+    c.unwrap_or.ensures
+    ∙ held_try 32 4_294_967_295 4_294_967_295 _ _ refl c.try_from.ensures
+    ∙ held_top 4_294_967_294 _
+    ∙ ap (held_or 4_294_967_294 4_294_967_295) (to_z-of_z w64 _ (record { sfits = c.word_at.type_inv }) ∙ c.word_at.ensures)

@@ -6,8 +6,8 @@ use Rattle.export.proofs.words.height_word.Goals as goal
 pub overflow_cast-result : goal.overflow_cast-result
 overflow_cast-result c = search (widens, rules)
 
-pub returns-in-Missing : goal.returns-in-Missing
-returns-in-Missing c = search (missing-word, rules)
+pub returns-in-None : goal.returns-in-None
+returns-in-None c = search (missing-word, rules)
 
-pub returns-in-Mm : goal.returns-in-Mm
-returns-in-Mm c = search (height-word, rules)
+pub returns-in-Some : goal.returns-in-Some
+returns-in-Some c = search (height-word, rules)

@@ -1,9 +1,5 @@
-use borrow.Author.Rules.{rules}
-use Rattle.reading.proofs.ValueLaws.{sequence_missing, sequence_given_lem}
+use Rattle.reading.proofs.ValueLaws.{sequence_given_lem}
 use Rattle.reading.proofs.values.read_sequence.Goals as goal
 
-pub returns-in-Missing : goal.returns-in-Missing
-returns-in-Missing c = search (sequence_missing, rules)
-
-pub returns-in-Is : goal.returns-in-Is
-returns-in-Is c = search (sequence_given_lem, rules)
+pub returns : goal.returns
+returns c = sequence_given_lem c.args.line.now _ c.middle.ensures c.read_count.ensures
