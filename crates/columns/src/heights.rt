@@ -6,7 +6,7 @@ ghost use Rattle.columns.specs.Types.{height_of, height_value, int_of};
 ghost use Rattle.columns.specs.Leaves.{between, split_fits, split_columns, height_columns};
 
 use crate::Height;
-use crate::numbers::{has_form, has_room, last_of, sum, wide};
+use crate::numbers::{has_form, has_room, last_of, sum};
 use crate::sets::all_blank;
 use crate::signs::{SplitLong, split_long, with_sign, with_sign_long};
 use crate::writers::{put_blank, put_digits};
@@ -16,9 +16,9 @@ fn is_between(negative: bool, size: u64, lo: u32, hi: u32) -> bool
     ensures { result ≡ between lo hi negative size }
 {
     if negative {
-        return size <= wide(lo);
+        return size <= u64::from(lo);
     }
-    size <= wide(hi)
+    size <= u64::from(hi)
 }
 
 // Whatever has the form fits its own width, so its range is left to judge, or that it may be missing.
@@ -37,15 +37,11 @@ pub fn good_height(part: &[u8], lo: u32, hi: u32, may: bool) -> bool
 pub fn has_minus(part: &[u8]) -> bool
     ensures { result ≡ minus part.now }
 {
-    let n = part.len();
     let mut found = false;
     let mut blank = true;
-    let mut i: usize = 0;
-    while i < n {
-        let b = part[i];
-        found = found | (blank & (b == 45));
-        blank = blank & (b == 32);
-        i += 1;
+    for &b in part {
+        found |= blank & (b == 45);
+        blank &= b == 32;
     }
     found
 }
@@ -99,7 +95,7 @@ pub fn height_fits(h: Height, width: usize, lo: u32, hi: u32, may: bool) -> bool
 {
     match h {
         Height::Missing => may,
-        Height::Mm(z) => signed_fits(z as i64, width, lo, hi),
+        Height::Mm(z) => signed_fits(i64::from(z), width, lo, hi),
     }
 }
 
@@ -129,6 +125,6 @@ pub fn put_height(out: &mut [u8], h: Height)
 {
     match h {
         Height::Missing => put_blank(out),
-        Height::Mm(z) => put_signed(out, z as i64),
+        Height::Mm(z) => put_signed(out, i64::from(z)),
     }
 }
