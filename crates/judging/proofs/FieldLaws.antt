@@ -53,7 +53,7 @@ module _ (n : ℕ) where
   unfolding meets expect_of ◌≤?◌
   met_above k e j z = rw (e, z)
 
-truth_is : (a b : Bool) → beq a b ≡ same_truth a b
+pub truth_is : (a b : Bool) → beq a b ≡ same_truth a b
 unfolding same_truth
 truth_is true true = refl
 truth_is true false = refl
