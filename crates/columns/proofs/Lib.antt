@@ -3,7 +3,6 @@ pub mod Loops
 pub mod Signed
 pub mod SetLaws
 pub mod ItemLaws
-pub mod PartLaws
 pub mod LabelLaws
 pub mod NumberLaws
 pub mod ValueLaws

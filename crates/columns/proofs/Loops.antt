@@ -1,7 +1,7 @@
 -- The loops turn by turn: what is still to do from here, with what was done, is what was to do at the start. Each law is over plain lists and numbers. Assumes nothing.
 use mathlib.Core.Path.{◌≡◌, refl, sym, ◌∙◌}
 use mathlib.Core.Bool.{Bool, true, false, cond, not, ◌&&◌, ◌||◌, and_assoc, and-true, or-false}
-use mathlib.Core.List.{List, ◌∷◌, ◌++◌, append_assoc, append-nil}
+use mathlib.Core.List.{List, [], ◌∷◌, ◌++◌, append_assoc, append-nil}
 use Prim.Native.Nat.{ℕ, zero, suc, ◌+◌, ◌-◌, ◌*◌, ◌/◌, ◌%◌, ◌^◌, ◌≤◌, ◌<◌}
 use native.Mathlib.Nat.{le_refl, pow-suc, pow-le-pow_right}
 use native.Mathlib.Numerals.{add-one}
@@ -10,6 +10,16 @@ use lib.Dec.{leb, eqb, lit≤}
 use lib.ListN.{length, get_or, set, take, drop, drop_of_length-le}
 use lib.Seq.{drop-length, drop-cons, take_all, get_or-set_same, drop-set-lt, lt-length-set, take-suc-set}
 use borrow.Author.Tests.{eqb-true, ne_eqb}
+use denote.Param.Members.{Mut}
+use denote.Ref.{Bor}
+use Rattle.std.specs.declared.slice.Iter.{Iter}
+use Rattle.std.proofs.iter.Yields.{fronts}
+use Rattle.std.specs.Slice.Iter.{iter_rest}
+use Rattle.std.specs.Iterator.{Drains}
+use Rattle.std.specs.Fn.{Called}
+use Rattle.std.specs.List.{fold, FoldsTo}
+use Rattle.std.proofs.lemmas.Iterator.{YieldsList-from_slice}
+use Rattle.std.proofs.lemmas.Iterator.Consumers.{fold_from_yields_List}
 use Rattle.rules.specs.Tests.{◌&◌, ◌≤?◌, ◌=?◌, within, all}
 use Rattle.rules.specs.Characters.{is_blank, is_digit, any_of}
 use Rattle.rules.specs.Digits.{val, put}
@@ -22,30 +32,36 @@ unfolding ◌&◌
 &_is true b = refl
 &_is false b = refl
 
-module _ (p : ℕ → Bool) (f : List ℕ) (i : ℕ) (good : Bool) where
-  -- a loop that tests every column, whatever it tests: t is the test as the code writes it
-  pub all_turn : (t : Bool) → t ≡ p (get_or f i 0) → i < length f → (good && t && all p (drop (i + 1) f)) ≡ (good && all p (drop i f))
-  unfolding all
-  all_turn t e h = rw (e, add-one, drop-cons f i 0, &_is) (and_assoc good _ _)
+-- a chain that tests every column, whatever it tests: the closure's test is p
+all_from : (p : ℕ → Bool) (good : Bool) (bs : List ℕ) → fold (λ g b. g && p b) good bs ≡ (good && all p bs)
+unfolding all
+all_from p good [] = sym (and-true good)
+all_from p good (b ∷ bs) = all_from p (good && p b) bs ∙ rw (&_is) (and_assoc good _ _)
 
-  pub all_end : length f ≤ i → (good && all p (drop i f)) ≡ good
-  unfolding all
-  all_end h = rw (drop_of_length-le f h) (and-true good)
-
--- a loop that compares with every character of a list: t is the test as the code writes it
+-- a chain that compares with every character of a list: t is the test as the code writes it
 next_of : (found t : Bool) (rest : Bool) → ((found || t) || rest) ≡ (found || cond t true rest)
 next_of true t rest = refl
 next_of false true rest = refl
 next_of false false rest = refl
 
-module _ (f : List ℕ) (i b : ℕ) (found : Bool) where
-  pub any_turn : i < length f → ((found || eqb b (get_or f i 0)) || any_of (drop (i + 1) f) b) ≡ (found || any_of (drop i f) b)
-  unfolding any_of ◌=?◌
-  any_turn h = rw (add-one, drop-cons f i 0) (next_of found (eqb b (get_or f i 0)) (any_of (drop (suc i) f) b))
+pub any_turn : (f : List ℕ) (i b : ℕ) (found : Bool) → i < length f → ((found || eqb b (get_or f i 0)) || any_of (drop (i + 1) f) b) ≡ (found || any_of (drop i f) b)
+unfolding any_of ◌=?◌
+any_turn f i b found h = rw (add-one, drop-cons f i 0) (next_of found (eqb b (get_or f i 0)) (any_of (drop (suc i) f) b))
 
-  pub any_end : length f ≤ i → (found || any_of (drop i f) b) ≡ found
-  unfolding any_of
-  any_end h = rw (drop_of_length-le f h) (or-false found)
+any_from : (b : ℕ) (found : Bool) (cs : List ℕ) → fold (λ g c. g || eqb b c) found cs ≡ (found || any_of cs b)
+unfolding any_of
+any_from b found [] = sym (or-false found)
+any_from b found (c ∷ cs) = any_from b (found || eqb b c) cs ∙ any_turn (c ∷ cs) 0 b found (omega arith)
+
+-- what `fold` over the columns bs says of its calls, from `start` to r, where every call leaves the closure f as it was
+module _ {F : Type 0} (g : Mut F (Bool × (Bor ℕ × Unit {0})) Bool) {f : F} {s : Iter ℕ} (r : Bool) (bs : List ℕ) where
+  pub all_chain : (p : ℕ → Bool) → (xs : List (Bor ℕ)) × (q : F) × Drains fronts s xs × FoldsTo {P = F × Bool} (λ a x d. Called g a.0 (a.1, (x, tt)) d.1 d.0) (f, true) xs (q, r)
+      → iter_rest s ≡ bs → ((a : Bool) (x : Bor ℕ) (d : Bool) (q : F) → Called g f (a, (x, tt)) d q → (q ≡ f) × (d ≡ (a && p x.now))) → r ≡ all p bs
+  all_chain p ran e turn = fold_from_yields_List g (λ a b. a && p b) true r ran (YieldsList-from_slice bs e) turn ∙ all_from p true bs
+
+  pub any_chain : (b : ℕ) → (xs : List (Bor ℕ)) × (q : F) × Drains fronts s xs × FoldsTo {P = F × Bool} (λ a x d. Called g a.0 (a.1, (x, tt)) d.1 d.0) (f, false) xs (q, r)
+      → iter_rest s ≡ bs → ((a : Bool) (x : Bor ℕ) (d : Bool) (q : F) → Called g f (a, (x, tt)) d q → (q ≡ f) × (d ≡ (a || eqb b x.now))) → r ≡ any_of bs b
+  any_chain b ran e turn = fold_from_yields_List g (λ a c. a || eqb b c) false r ran (YieldsList-from_slice bs e) turn ∙ any_from b false bs
 
 -- a minus in front: not yet found, and nothing but blanks so far
 first : (found blank z m : Bool) (b : ℕ) → eqb b 32 ≡ z → (found || blank && eqb b 45 || (blank && z) && m) ≡ (found || blank && cond z m (eqb b 45))

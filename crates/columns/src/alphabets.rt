@@ -38,28 +38,13 @@ const NAME: [u8; 47] = [
 fn is_listed(list: &[u8], b: u8) -> bool
     ensures { result ≡ any_of list.now b }
 {
-    let n = list.len();
-    let mut found = false;
-    let mut i: usize = 0;
-    while i < n {
-        let c = list[i];
-        found = found | (b == c);
-        i += 1;
-    }
-    found
+    list.iter().fold(false, |found, &c| found | (b == c))
 }
 
 fn all_listed(part: &[u8], list: &[u8]) -> bool
     ensures { result ≡ all (any_of list.now) part.now }
 {
-    let n = part.len();
-    let mut good = true;
-    let mut i: usize = 0;
-    while i < n {
-        good = good & is_listed(list, part[i]);
-        i += 1;
-    }
-    good
+    part.iter().fold(true, |good, &b| good & is_listed(list, b))
 }
 
 // Every column is a character of a title.

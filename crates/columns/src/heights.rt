@@ -5,7 +5,7 @@ ghost use Rattle.rules.specs.Items.{good, fits, value_of, height, minus, num};
 ghost use Rattle.columns.specs.Types.{height_of, height_value, int_of};
 ghost use Rattle.columns.specs.Leaves.{between, height_columns};
 
-use crate::numbers::{has_form, has_room, last_of, sum, wide};
+use crate::numbers::{has_form, has_room, last_of, sum};
 use crate::sets::all_blank;
 use crate::signs::with_sign;
 use crate::writers::{put_blank, put_digits};
@@ -15,9 +15,9 @@ fn is_between(negative: bool, size: u64, lo: u32, hi: u32) -> bool
     ensures { result ≡ between lo hi negative size }
 {
     if negative {
-        return size <= wide(lo);
+        return size <= u64::from(lo);
     }
-    size <= wide(hi)
+    size <= u64::from(hi)
 }
 
 // Whatever has the form fits its own width, so its range is left to judge, or that it may be missing.
@@ -36,15 +36,11 @@ pub fn good_height(part: &[u8], lo: u32, hi: u32, may: bool) -> bool
 pub fn has_minus(part: &[u8]) -> bool
     ensures { result ≡ minus part.now }
 {
-    let n = part.len();
     let mut found = false;
     let mut blank = true;
-    let mut i: usize = 0;
-    while i < n {
-        let b = part[i];
-        found = found | (blank & (b == 45));
-        blank = blank & (b == 32);
-        i += 1;
+    for &b in part {
+        found |= blank & (b == 45);
+        blank &= b == 32;
     }
     found
 }
@@ -92,7 +88,7 @@ pub fn height_fits(h: Option<i32>, width: usize, lo: u32, hi: u32, may: bool) ->
 {
     match h {
         None => may,
-        Some(z) => signed_fits(z as i64, width, lo, hi),
+        Some(z) => signed_fits(i64::from(z), width, lo, hi),
     }
 }
 
@@ -116,6 +112,6 @@ pub fn put_height(out: &mut [u8], h: Option<i32>)
 {
     match h {
         None => put_blank(out),
-        Some(z) => put_signed(out, z as i64),
+        Some(z) => put_signed(out, i64::from(z)),
     }
 }

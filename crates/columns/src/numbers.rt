@@ -13,10 +13,7 @@ use crate::writers::{put_blank, put_digits};
 fn digit(b: u8) -> u64
     ensures { result ≡ b - 48 }
 {
-    if b < 48 {
-        return 0;
-    }
-    (b - 48) as u64
+    u64::from(b.saturating_sub(48))
 }
 
 // Any sixteen bytes fit; `Summed` says how large the sum can be.
@@ -24,12 +21,9 @@ pub(crate) fn sum(part: &[u8]) -> u64
     requires { length part.now ≤ 16 }
     ensures { Summed part.now result }
 {
-    let n = part.len();
-    let mut v: u64 = 0;
-    let mut i: usize = 0;
-    while i < n {
-        v = v * 10 + digit(part[i]);
-        i += 1;
+    let mut v = 0;
+    for &b in part {
+        v = v * 10 + digit(b);
     }
     v
 }
@@ -48,15 +42,11 @@ pub fn value_of(part: &[u8]) -> u64
 pub(crate) fn has_form(part: &[u8], mark: u8) -> bool
     ensures { result ≡ formed mark 32 part.now }
 {
-    let n = part.len();
     let mut good = true;
     let mut last: u8 = 32;
-    let mut i: usize = 0;
-    while i < n {
-        let b = part[i];
-        good = good & (((48 <= b) & (b <= 57)) | (((b == 32) | (b == mark)) & (last == 32)));
+    for &b in part {
+        good &= ((48 <= b) & (b <= 57)) | (((b == 32) | (b == mark)) & (last == 32));
         last = b;
-        i += 1;
     }
     good & (last != 45)
 }
@@ -65,17 +55,7 @@ pub(crate) fn has_form(part: &[u8], mark: u8) -> bool
 pub(crate) fn last_of(part: &[u8]) -> u8
     ensures { result ≡ last_of part.now }
 {
-    let n = part.len();
-    if n == 0 {
-        return 32;
-    }
-    part[n - 1]
-}
-
-pub(crate) fn wide(n: u32) -> u64
-    ensures { result ≡ n }
-{
-    n as u64
+    part.last().copied().unwrap_or(32)
 }
 
 // In a field that has its form the last column tells whether all are blank.
@@ -87,7 +67,7 @@ pub fn good_number(part: &[u8], lo: u32, hi: u32, may: bool) -> bool
     }
     let v = sum(part);
     let blank = last_of(part) == 32;
-    let held = (wide(lo) <= v) & (v <= wide(hi));
+    let held = (u64::from(lo) <= v) & (v <= u64::from(hi));
     has_form(part, 32) & ((blank & may) | (!blank & held))
 }
 
@@ -104,19 +84,6 @@ pub fn read_count(part: &[u8]) -> Option<u32>
     Some(sum(part) as u32)
 }
 
-fn power(w: usize) -> u64
-    requires { w ≤ 19 }
-    ensures { result ≡ 10 ^ w }
-{
-    let mut p: u64 = 1;
-    let mut i: usize = 0;
-    while i < w {
-        p = p * 10;
-        i += 1;
-    }
-    p
-}
-
 // n has at most w digits.
 pub(crate) fn has_room(n: u64, w: usize) -> bool
     ensures { result ≡ suc n ≤? 10 ^ w }
@@ -124,14 +91,14 @@ pub(crate) fn has_room(n: u64, w: usize) -> bool
     if 19 < w {
         return true;
     }
-    n < power(w)
+    n < 10u64.pow(w as u32)
 }
 
 // A number that is not missing.
 pub fn number_fits(n: u64, width: usize, lo: u32, hi: u32) -> bool
     ensures { result ≡ fits (number width lo hi false) (num (pos n)) }
 {
-    (1 <= width) & has_room(n, width) & ((wide(lo) <= n) & (n <= wide(hi)))
+    (1 <= width) & has_room(n, width) & ((u64::from(lo) <= n) & (n <= u64::from(hi)))
 }
 
 pub fn count_fits(c: Option<u32>, width: usize, lo: u32, hi: u32, may: bool) -> bool
@@ -139,7 +106,7 @@ pub fn count_fits(c: Option<u32>, width: usize, lo: u32, hi: u32, may: bool) -> 
 {
     match c {
         None => may,
-        Some(n) => number_fits(wide(n), width, lo, hi),
+        Some(n) => number_fits(u64::from(n), width, lo, hi),
     }
 }
 
@@ -148,7 +115,7 @@ pub fn put_count(out: &mut [u8], c: Option<u32>)
 {
     match c {
         None => put_blank(out),
-        Some(n) => put_digits(out, n as u64),
+        Some(n) => put_digits(out, u64::from(n)),
     }
 }
 
@@ -185,5 +152,5 @@ pub fn put_month(out: &mut [u8], n: u32)
     if !month_fits(n) {
         return;
     }
-    put_digits(out, n as u64);
+    put_digits(out, u64::from(n));
 }

@@ -5,22 +5,13 @@ ghost use Rattle.std.specs.Prelude.{◌≡◌, get_or, take, drop};
 pub fn byte_at(part: &[u8], i: usize) -> u8
     ensures { result ≡ get_or part.now i 0 }
 {
-    if part.len() <= i {
-        return 0;
-    }
-    part[i]
+    part.get(i).copied().unwrap_or(0)
 }
 
 // The k columns from `at` on, or as many as there are.
 pub fn middle(part: &[u8], at: usize, k: usize) -> &[u8]
     ensures { result.now ≡ take k (drop at part.now) }
 {
-    let n = part.len();
-    if n <= at {
-        return &part[n..n];
-    }
-    if n - at <= k {
-        return &part[at..n];
-    }
-    &part[at..at + k]
+    let rest = part.get(at..).unwrap_or(&[]);
+    rest.get(..k).unwrap_or(rest)
 }

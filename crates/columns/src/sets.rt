@@ -1,4 +1,5 @@
-// Characters by their sets. The loops have no branch, so that the compiler judges many columns at once.
+// Characters by their sets. Every column is judged, also after one that fails (so `fold`, where `all` would stop): without a branch the
+// compiler judges many columns at once.
 ghost use Rattle.std.specs.Prelude.{◌≡◌, length};
 ghost use Rattle.rules.specs.Tests.{all, ◌=?◌, within};
 ghost use Rattle.rules.specs.Characters.{is_blank};
@@ -13,30 +14,15 @@ use crate::alphabets::{all_named, all_titled};
 pub fn all_are(part: &[u8], c: u8) -> bool
     ensures { result ≡ all (λ b. b =? c) part.now }
 {
-    let n = part.len();
-    let mut good = true;
-    let mut i: usize = 0;
-    while i < n {
-        let b = part[i];
-        good = good & (b == c);
-        i += 1;
-    }
-    good
+    part.iter().fold(true, |good, &b| good & (b == c))
 }
 
 // Every column is from lo to hi.
 pub fn all_within(part: &[u8], lo: u8, hi: u8) -> bool
     ensures { result ≡ all (within lo hi) part.now }
 {
-    let n = part.len();
-    let mut good = true;
-    let mut i: usize = 0;
-    while i < n {
-        let b = part[i];
-        good = good & ((lo <= b) & (b <= hi));
-        i += 1;
-    }
-    good
+    part.iter()
+        .fold(true, |good, &b| good & ((lo <= b) & (b <= hi)))
 }
 
 pub fn all_blank(part: &[u8]) -> bool
@@ -76,14 +62,7 @@ fn new_ranges(low: u8, high: u8, bottom: u8, top: u8, one: u8) -> Ranges
 fn all_inside(part: &[u8], m: Ranges) -> bool
     ensures { result ≡ all (inside m) part.now }
 {
-    let n = part.len();
-    let mut good = true;
-    let mut i: usize = 0;
-    while i < n {
-        good = good & is_inside(m, part[i]);
-        i += 1;
-    }
-    good
+    part.iter().fold(true, |good, &b| good & is_inside(m, b))
 }
 
 // Every column by the test of its set. The characters of titles and names have no ranges: each is compared by itself.

@@ -8,9 +8,7 @@ pub fn put_digits(out: &mut [u8], v: u64)
     ensures { out.new ≡ put (length out.old) v }
 {
     let mut rest = v;
-    let mut i = out.len();
-    while 0 < i {
-        i -= 1;
+    for i in (0..out.len()).rev() {
         out[i] = 48 + ((rest % 10) as u8);
         rest /= 10;
     }
@@ -20,12 +18,7 @@ pub fn put_digits(out: &mut [u8], v: u64)
 pub fn put_all(out: &mut [u8], c: u8)
     ensures { out.new ≡ replicate (length out.old) c }
 {
-    let n = out.len();
-    let mut i: usize = 0;
-    while i < n {
-        out[i] = c;
-        i += 1;
-    }
+    out.fill(c);
 }
 
 pub fn put_blank(out: &mut [u8])
@@ -38,13 +31,7 @@ pub fn put_blank(out: &mut [u8])
 pub fn put_text(out: &mut [u8], text: &[u8])
     ensures { out.new ≡ cond (length text.now =? length out.old) text.now out.old }
 {
-    let n = out.len();
-    if text.len() != n {
-        return;
-    }
-    let mut i: usize = 0;
-    while i < n {
-        out[i] = text[i];
-        i += 1;
+    if text.len() == out.len() {
+        out.copy_from_slice(text);
     }
 }

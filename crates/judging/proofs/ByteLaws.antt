@@ -1,90 +1,91 @@
--- The lowest column at fault: one law for each way through the loop.
+-- The lowest column at fault: the first of the eighty that is not printable, or else what stands behind them.
 use mathlib.Core.Path.{◌≡◌, sym, ◌∙◌, ap}
-use mathlib.Core.Bool.{true, false}
-use mathlib.Core.List.{List}
-use Prim.Native.Nat.{ℕ, suc, ◌+◌, ◌-◌, ◌≤◌, ◌<◌}
-use native.Mathlib.Numerals.{add-one}
+use mathlib.Core.Bool.{Bool, true, false, cond, not, ◌&&◌}
+use mathlib.Core.List.{List, [], ◌∷◌}
+use Prim.Native.Nat.{ℕ, zero, suc, ◌+◌, ◌≤◌, ◌<◌}
 use native.Mathlib.Omega.{arith}
-use lib.ListN.{length, drop, get_or, drop_of_length-le}
-use lib.Seq.{drop-cons}
+use lib.Dec.{leb}
+use lib.ListN.{length, drop, take, get_or, drop_of_length-le}
+use lib.Seq.{drop-cons, take_all, length-take-le}
+use Rattle.std.specs.List.{position_from}
+use Rattle.std.proofs.Common.{Option, None, Some}
+use Rattle.rules.specs.Tests.{◌≤?◌, ◌=?◌, within}
 use Rattle.rules.specs.Characters.{is_printable}
-use Rattle.rules.specs.Fields.{ok, fault, check, ◌⨾◌}
+use Rattle.rules.specs.Fields.{fault, check, ◌⨾◌}
 use Rattle.rules.specs.Records.{bytes}
-use Rattle.rules.proofs.Truth.{of_within, to_within, of≡, of≢, is_no}
+use Rattle.rules.proofs.Truth.{of≡, of≢}
+use Rattle.columns.proofs.Loops.{&_is}
 use Rattle.kinds.specs.declared.Judged.{Judged}
 use Rattle.kinds.specs.Values.{judged_of}
 
-printable : (b : ℕ) → 32 ≤ b → b ≤ 126 → is_printable b ≡ true
-unfolding is_printable
-printable b p q = of_within p q
+-- as the code tests a byte
+pub outside : (b : ℕ) → not (leb 32 b && leb b 126) ≡ not (is_printable b)
+unfolding is_printable within ◌≤?◌
+outside b = sym (ap not (&_is _ _))
 
-low : (b : ℕ) → b < 32 → is_printable b ≡ false
-unfolding is_printable
-low b h = is_no _ (λ e. omega (arith, (to_within e).0))
+abbrev bad : ℕ → Bool
+bad b = not (is_printable b)
 
-high : (b : ℕ) → 126 < b → is_printable b ≡ false
-unfolding is_printable
-high b h = is_no _ (λ e. omega (arith, (to_within e).1))
+-- the first of n columns that is not printable, from column k + 1 on
+seen : (n k i : ℕ) (f : List ℕ) → position_from bad k (take n f) ≡ Some i → bytes n (k + 1) f ≡ fault 4 (i + 1)
+unfolding bytes check ◌⨾◌
+seen zero k i f e = absurd (cc)
+seen (suc n) k i [] e = absurd (cc)
+seen (suc n) k i (b ∷ f) e = by (is_printable b) e (seen n (k + 1) i f)
+  where
+    by : (t : Bool) → cond (not t) (Some k) (position_from bad (k + 1) (take n f)) ≡ Some i → (position_from bad (k + 1) (take n f) ≡ Some i → bytes n (k + 1 + 1) f ≡ fault 4 (i + 1)) → check t 4 (k + 1) ⨾ bytes n (k + 1 + 1) f ≡ fault 4 (i + 1)
+    by true e on = on e
+    by false e on = cc
 
--- what is left from column i + 1 on is what was to judge at the start
-pub record Sought (f : List ℕ) (i : ℕ) : Type 0 where
-  pub most : i ≤ 80
-  pub same : bytes (80 - i) (i + 1) (drop i f) ≡ bytes 80 1 f
+seen_within : (n k i : ℕ) (f : List ℕ) → position_from bad k (take n f) ≡ Some i → i < k + n
+seen_within zero k i f e = absurd (cc)
+seen_within (suc n) k i [] e = absurd (cc)
+seen_within (suc n) k i (b ∷ f) e = by (is_printable b) e (seen_within n (k + 1) i f)
+  where
+    by : (t : Bool) → cond (not t) (Some k) (position_from bad (k + 1) (take n f)) ≡ Some i → (position_from bad (k + 1) (take n f) ≡ Some i → i < k + 1 + n) → i < k + suc n
+    by true e on = let h : i < k + 1 + n = on e in omega arith
+    by false e on = let h : k ≡ i = cc in omega arith
 
-module _ (f : List ℕ) (i : ℕ) where
-  left : i < 80 → 80 - i ≡ suc (80 - (i + 1))
-  left h = omega arith
+-- none of them: what stands behind them decides
+unseen : (n k : ℕ) (f : List ℕ) → position_from bad k (take n f) ≡ None → bytes n (k + 1) f ≡ bytes 0 (length (take n f) + k + 1) (drop n f)
+unfolding bytes check ◌⨾◌
+unseen zero k f e = ap (λ m. bytes 0 m f) (omega arith)
+unseen (suc n) k [] e = ap (fault 3) (omega arith)
+unseen (suc n) k (b ∷ f) e = by (is_printable b) e (unseen n (k + 1) f)
+  where
+    by : (t : Bool) → cond (not t) (Some k) (position_from bad (k + 1) (take n f)) ≡ None → (position_from bad (k + 1) (take n f) ≡ None → bytes n (k + 1 + 1) f ≡ bytes 0 (length (take n f) + (k + 1) + 1) (drop n f)) → check t 4 (k + 1) ⨾ bytes n (k + 1 + 1) f ≡ bytes 0 (suc (length (take n f)) + k + 1) (drop n f)
+    by true e on = on e ∙ ap (λ m. bytes 0 m (drop n f)) (omega arith)
+    by false e on = absurd (cc)
 
-  none : i < 80 → length f ≤ i → bytes (80 - i) (i + 1) (drop i f) ≡ fault 3 (i + 1)
+module _ (f : List ℕ) {columns : List ℕ} (cut : columns ≡ take 80 f) {r : Option ℕ} (first : r ≡ position_from bad 0 columns) where
+  found : r ≡ position_from bad 0 (take 80 f)
+  found = first ∙ ap (position_from bad 0) cut
+
+  pub bad_byte : {i : ℕ} → r ≡ Some i → Judged.Bad 4 (i + 1) ≡ judged_of (bytes 80 1 f)
+  unfolding judged_of
+  bad_byte {i} e = sym (ap judged_of (seen 80 0 i f (sym found ∙ e)))
+
+  pub bad_within : {i : ℕ} → r ≡ Some i → i < 80
+  bad_within {i} e = seen_within 80 0 i f (sym found ∙ e)
+
+  behind : r ≡ None → bytes 0 (length (take 80 f) + 0 + 1) (drop 80 f) ≡ bytes 80 1 f
+  behind e = sym (unseen 80 0 f (sym found ∙ e))
+
+  pub no_feed : r ≡ None → length f ≤ 80 → Judged.Bad 3 (length f + 1) ≡ judged_of (bytes 80 1 f)
+  unfolding judged_of bytes
+  no_feed e k =
+      let all : take 80 f ≡ f = take_all 80 f k in
+      ap judged_of (ap (fault 3) (omega (arith, ap length all)) ∙ ap (bytes 0 (length (take 80 f) + 0 + 1)) (sym (drop_of_length-le f k)) ∙ behind e)
+
+  -- column 81
+  at_81 : r ≡ None → 80 < length f → bytes 80 1 f ≡ check (get_or f 80 0 =? 10) 5 81
   unfolding bytes
-  none h k = rw (left h, drop_of_length-le f k)
+  at_81 e k = sym (behind e) ∙ rw (drop-cons f 80 0 k) (ap (λ m. check (get_or f 80 0 =? 10) 5 (m + 0 + 1)) (length-take-le 80 f (omega arith)))
 
-  bad : i < 80 → i < length f → is_printable (get_or f i 0) ≡ false → bytes (80 - i) (i + 1) (drop i f) ≡ fault 4 (i + 1)
-  unfolding bytes check ◌⨾◌
-  bad h k e = rw (left h, drop-cons f i 0, e)
+  pub other_byte : r ≡ None → 80 < length f → (get_or f 80 0 ≡ 10 → ⊥) → Judged.Bad 5 81 ≡ judged_of (bytes 80 1 f)
+  unfolding judged_of check
+  other_byte e k n = sym (rw (at_81 e k, of≢ n))
 
-  good : i < 80 → i < length f → is_printable (get_or f i 0) ≡ true → bytes (80 - i) (i + 1) (drop i f) ≡ bytes (80 - (i + 1)) (i + 1 + 1) (drop (i + 1) f)
-  unfolding bytes check ◌⨾◌
-  good h k e = rw (left h, add-one i, drop-cons f i 0, e)
-
-module _ {f : List ℕ} {i : ℕ} (s : Sought f i) where
-  pub short : i < 80 → length f ≤ i → Judged.Bad 3 (i + 1) ≡ judged_of (bytes 80 1 f)
-  short h k = unfold judged_of in ap judged_of (sym (none f i h k) ∙ s.same)
-
-  pub too_low : i < 80 → i < length f → get_or f i 0 < 32 → Judged.Bad 4 (i + 1) ≡ judged_of (bytes 80 1 f)
-  too_low h k b = unfold judged_of in ap judged_of (sym (bad f i h k (low _ b)) ∙ s.same)
-
-  pub too_high : i < 80 → i < length f → 126 < get_or f i 0 → Judged.Bad 4 (i + 1) ≡ judged_of (bytes 80 1 f)
-  too_high h k b = unfold judged_of in ap judged_of (sym (bad f i h k (high _ b)) ∙ s.same)
-
-  pub on : i < 80 → i < length f → 32 ≤ get_or f i 0 → get_or f i 0 ≤ 126 → Sought f (i + 1)
-  on h k p q = record { most = omega arith; same = sym (good f i h k (printable _ p q)) ∙ s.same }
-
-  whole : 80 ≤ i → bytes 0 81 (drop 80 f) ≡ bytes 80 1 f
-  whole h =
-      let e : i ≡ 80 = omega (arith, s.most) in
-      rw e at s.same
-
--- column 81
-module _ (f : List ℕ) where
-  unfed : length f ≤ 80 → bytes 0 81 (drop 80 f) ≡ fault 3 81
-  unfolding bytes
-  unfed k = rw (drop_of_length-le f k)
-
-  fed_otherwise : 80 < length f → (get_or f 80 0 ≡ 10 → ⊥) → bytes 0 81 (drop 80 f) ≡ fault 5 81
-  unfolding bytes check
-  fed_otherwise k e = rw (drop-cons f 80 0 k, of≢ e)
-
-  fed : 80 < length f → get_or f 80 0 ≡ 10 → bytes 0 81 (drop 80 f) ≡ ok
-  unfolding bytes check
-  fed k e = rw (drop-cons f 80 0 k, of≡ e)
-
-module _ {f : List ℕ} {i : ℕ} (s : Sought f i) (h : 80 ≤ i) where
-  pub no_feed : length f ≤ 80 → Judged.Bad 3 81 ≡ judged_of (bytes 80 1 f)
-  no_feed k = unfold judged_of in ap judged_of (sym (unfed f k) ∙ whole s h)
-
-  pub other_byte : 80 < length f → (get_or f 80 0 ≡ 10 → ⊥) → Judged.Bad 5 81 ≡ judged_of (bytes 80 1 f)
-  other_byte k e = unfold judged_of in ap judged_of (sym (fed_otherwise f k e) ∙ whole s h)
-
-  pub fine : 80 < length f → get_or f 80 0 ≡ 10 → Judged.Good ≡ judged_of (bytes 80 1 f)
-  fine k e = unfold judged_of in ap judged_of (sym (fed f k e) ∙ whole s h)
+  pub fine : r ≡ None → 80 < length f → get_or f 80 0 ≡ 10 → Judged.Good ≡ judged_of (bytes 80 1 f)
+  unfolding judged_of check
+  fine e k y = sym (rw (at_81 e k, of≡ y))

@@ -1,6 +1,6 @@
 -- One field of a line: one law for each way through the functions.
 use mathlib.Core.Path.{◌≡◌, refl, sym, ◌∙◌, ap}
-use mathlib.Core.Bool.{Bool, true, false, not, ◌&&◌, ◌||◌}
+use mathlib.Core.Bool.{Bool, true, false, not, beq}
 use mathlib.Core.List.{List}
 use Prim.Native.Nat.{ℕ, ◌+◌, ◌-◌, ◌≤◌}
 use native.Mathlib.Omega.{arith}
@@ -53,7 +53,7 @@ module _ (n : ℕ) where
   unfolding meets expect_of ◌≤?◌
   met_above k e j z = rw (e, z)
 
-pub truth_is : (a b : Bool) → ((a && b) || (not a && not b)) ≡ same_truth a b
+pub truth_is : (a b : Bool) → beq a b ≡ same_truth a b
 unfolding same_truth
 truth_is true true = refl
 truth_is true false = refl
@@ -83,9 +83,9 @@ module _ (e : Expect) (l bs : List ℕ) {b : Bond} where
     unfolding agrees_in ◌≤?◌
     agrees-before z x u y v q = rw (z, y, q, x)
 
-    pub agrees_with_lem : b ≡ B.GoesWith c w → p ≡ part c w l → (u : Bool) → u ≡ all is_blank p → (v : Bool) → v ≡ all is_blank bs → {r : Bool} → r ≡ same_truth u v → r ≡ agrees_in e l b bs
+    pub agrees_with_lem : b ≡ B.GoesWith c w → p ≡ part c w l → (u : Bool) → u ≡ all is_blank p → (v : Bool) → v ≡ all is_blank bs → beq u v ≡ agrees_in e l b bs
     unfolding agrees_in
-    agrees_with_lem z x u y v q o = rw z (o ∙ rw (y, q, x))
+    agrees_with_lem z x u y v q = rw z (truth_is u v ∙ rw (y, q, x))
 
     pub agrees_apart : b ≡ B.Differs c w → p ≡ part c w l → (u : ℕ) → u ≡ number_in p → (v : ℕ) → v ≡ number_in bs → not (eqb u v) ≡ agrees_in e l b bs
     unfolding agrees_in ◌=?◌

@@ -1,34 +1,29 @@
 // Faults 3, 4 and 5: 80 printable columns, then a line feed.
-ghost use Rattle.std.specs.Prelude.{◌≡◌};
+ghost use Rattle.std.specs.Prelude.{◌≡◌, not};
+ghost use Rattle.std.specs.List.{position_from};
+ghost use Rattle.rules.specs.Characters.{is_printable};
 ghost use Rattle.rules.specs.Records.{bytes};
 ghost use Rattle.kinds.specs.Values.{judged_of};
 
+use columns::parts::middle;
 use kinds::Judged;
+
+fn first_unprintable(columns: &[u8]) -> Option<usize>
+    ensures { result ≡ position_from (λ b. not (is_printable b)) 0 columns.now }
+{
+    columns.iter().position(|&b| !((32 <= b) & (b <= 126)))
+}
 
 // The lowest column at fault.
 pub fn find_bad(line: &[u8]) -> Judged
     ensures { result ≡ judged_of (bytes 80 1 line.now) }
 {
-    let n = line.len();
-    let mut i: usize = 0;
-    while i < 80 {
-        if n <= i {
-            return Judged::Bad(3, i + 1);
-        }
-        let b = line[i];
-        if b < 32 {
-            return Judged::Bad(4, i + 1);
-        }
-        if 126 < b {
-            return Judged::Bad(4, i + 1);
-        }
-        i += 1;
+    if let Some(i) = first_unprintable(middle(line, 0, 80)) {
+        return Judged::Bad(4, i + 1);
     }
-    if n <= 80 {
-        return Judged::Bad(3, 81);
+    match line.get(80) {
+        None => Judged::Bad(3, line.len() + 1),
+        Some(10) => Judged::Good,
+        Some(_) => Judged::Bad(5, 81),
     }
-    if line[80] != 10 {
-        return Judged::Bad(5, 81);
-    }
-    Judged::Good
 }

@@ -6,7 +6,6 @@ ghost use Rattle.rules.specs.Digits.{val};
 ghost use Rattle.rules.specs.Kinds.{data_codes, kind_from, kind_between, kind_of};
 ghost use Rattle.rules.specs.Records.{code_at};
 
-use kinds::tables::wide;
 use kinds::{Job, Record};
 
 // The kind of each two-digit code, 14 where it is not known. The compiler makes this a table that is never copied.
@@ -41,7 +40,7 @@ fn data_kind(a: u8, b: u8) -> usize
     requires { is_digit a & is_digit b ≡ true }
     ensures { result ≡ kind_from 1 (val 0 (a ∷ b ∷ [])) data_codes }
 {
-    let n = wide(a - 48) * 10 + wide(b - 48);
+    let n = usize::from(a - 48) * 10 + usize::from(b - 48);
     kind_of_number(n)
 }
 

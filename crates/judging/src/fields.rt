@@ -1,7 +1,7 @@
 // The fields of a line from the left, each of its kind and range (9) and in agreement with earlier ones (10).
 ghost use Rattle.std.specs.Prelude.{◌≡◌, true, map, ◌+◌, ◌≤◌, ◌<◌, length, get_or};
 ghost use Rattle.rules.specs.Items.{good, spot};
-ghost use Rattle.rules.specs.Fields.{fault, read, judge, meets, same_truth};
+ghost use Rattle.rules.specs.Fields.{fault, read, judge, meets};
 ghost use Rattle.rules.specs.Layouts.{layouts, kept};
 ghost use Rattle.kinds.specs.Tables.{item_of};
 ghost use Rattle.kinds.specs.Values.{judged_of, expect_of};
@@ -15,7 +15,7 @@ use columns::numbers::{good_month, good_number, value_of};
 use columns::parts::middle;
 use columns::sets::{all_blank, good_blank, good_constant, good_word, good_word_or_blank};
 use columns::{Set, Way};
-use kinds::tables::{Bond, Item, bond_at, first_at, item_at, start_at, wide, width_at};
+use kinds::tables::{Bond, Item, bond_at, first_at, item_at, start_at, width_at};
 use kinds::{Expect, Judged};
 
 // Of its kind and range.
@@ -93,28 +93,16 @@ fn spot_item(item: Item, part: &[u8]) -> usize
     first_bad(part, field_kind(item))
 }
 
-fn long(n: u32) -> u64
-    ensures { result ≡ n }
-{
-    n as u64
-}
-
 // What the records before ask of a number.
 pub fn is_met(e: Expect, n: u64) -> bool
     ensures { result ≡ meets (expect_of e) n }
 {
     match e {
         Expect::Anything => true,
-        Expect::Same(k) => n == long(k),
-        Expect::NotBelow(k) => long(k) <= n,
-        Expect::Above(k) => long(k) + 1 <= n,
+        Expect::Same(k) => n == u64::from(k),
+        Expect::NotBelow(k) => u64::from(k) <= n,
+        Expect::Above(k) => u64::from(k) + 1 <= n,
     }
-}
-
-pub fn same_truth(a: bool, b: bool) -> bool
-    ensures { result ≡ same_truth a b }
-{
-    (a & b) | (!a & !b)
 }
 
 // The columns of an earlier field.
@@ -122,9 +110,9 @@ fn earlier(line: &[u8], first: u8, width: u8) -> &[u8]
     ensures { result.now ≡ part first width line.now }
 {
     if first == 0 {
-        return middle(line, 0, wide(width));
+        return middle(line, 0, usize::from(width));
     }
-    middle(line, wide(first) - 1, wide(width))
+    middle(line, usize::from(first) - 1, usize::from(width))
 }
 
 // In agreement with what stands before it in the line, and with what went before in the file.
@@ -135,7 +123,7 @@ fn agrees_item(e: Expect, line: &[u8], bond: Bond, part: &[u8]) -> bool
         Bond::Free => true,
         Bond::Expected => is_met(e, value_of(part)),
         Bond::NotBefore(c, w) => value_of(earlier(line, c, w)) <= value_of(part),
-        Bond::GoesWith(c, w) => same_truth(all_blank(earlier(line, c, w)), all_blank(part)),
+        Bond::GoesWith(c, w) => all_blank(earlier(line, c, w)) == all_blank(part),
         Bond::Differs(c, w) => value_of(earlier(line, c, w)) != value_of(part),
     }
 }
@@ -161,8 +149,8 @@ fn judge_at(e: Expect, line: &[u8], i: usize) -> Judged
     requires { (80 ≤ length line.now) × (i < 87) }
     ensures { result ≡ judged_of (judge_field_at (expect_of e) line.now i) }
 {
-    let first = wide(first_at(i));
-    let width = wide(width_at(i));
+    let first = usize::from(first_at(i));
+    let width = usize::from(width_at(i));
     judge_row(e, line, item_at(i), bond_at(i), first, width)
 }
 
@@ -180,8 +168,8 @@ fn refused_at(line: &[u8], i: usize) -> usize
     requires { (80 ≤ length line.now) × (i < 87) }
     ensures { result ≡ refused_at line.now i }
 {
-    let first = wide(first_at(i));
-    let width = wide(width_at(i));
+    let first = usize::from(first_at(i));
+    let width = usize::from(width_at(i));
     refused_in(line, item_at(i), first, width)
 }
 
@@ -201,14 +189,11 @@ pub(crate) fn judge_fields(line: &[u8], kind: usize, e: Expect) -> Judged
     requires { (80 ≤ length line.now) × (kind < 14) }
     ensures { result ≡ judged_of (judge (expect_of e) (map (read line.now) (get_or layouts kind kept))) }
 {
-    let end = wide(start_at(kind + 1));
-    let mut i = wide(start_at(kind));
-    while i < end {
+    for i in usize::from(start_at(kind))..usize::from(start_at(kind + 1)) {
         let j = judge_at(e, line, i);
         if let Judged::Bad(n, c) = j {
             return point_at(line, i, n, c);
         }
-        i += 1;
     }
     Judged::Good
 }

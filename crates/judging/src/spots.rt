@@ -73,12 +73,6 @@ fn one_of(set: Set) -> u8
     }
 }
 
-fn long(n: u32) -> u64
-    ensures { result ≡ n }
-{
-    n as u64
-}
-
 // The least value of the kind, in house style.
 fn put_least(out: &mut [u8], kind: FieldKind)
     requires { spans (item_as kind (length out.old)) (length out.old) ≡ true }
@@ -87,7 +81,7 @@ fn put_least(out: &mut [u8], kind: FieldKind)
     match kind {
         FieldKind::Blank => put_blank(out),
         FieldKind::Constant(c) => put_all(out, c),
-        FieldKind::Number(lo, hi, may) => put_digits(out, long(lo)),
+        FieldKind::Number(lo, hi, may) => put_digits(out, u64::from(lo)),
         FieldKind::Height(lo, hi, may) => put_digits(out, 0),
         FieldKind::Angle(way) => put_angle(out, 0, way),
         FieldKind::Month => put_month(out, 101),
@@ -139,12 +133,11 @@ pub(crate) fn first_bad(part: &[u8], kind: FieldKind) -> usize
     let n = part.len();
     let mut least = [32u8; 80];
     put_least(&mut least[0..n], kind);
-    let mut k: usize = 0;
-    while k + 1 < n {
+    let last = n.saturating_sub(1);
+    for k in 0..last {
         if !can_begin(part, k + 1, least, kind) {
             return k;
         }
-        k += 1;
     }
-    k
+    last
 }

@@ -28,10 +28,8 @@ fn fits_row(line: &[u8], row: &[[u8; 80]; 5]) -> bool
     ensures { result ≡ true → Columns row.now line.now }
 {
     let mut good = true;
-    let mut i: usize = 0;
-    while i < 16 {
-        good = good & five(line, i, row);
-        i += 1;
+    for i in 0..16 {
+        good &= five(line, i, row);
     }
     good
 }
@@ -59,10 +57,8 @@ fn fits_texts(line: &[u8], row: &[[u8; 80]; 5]) -> bool
     ensures { result ≡ true → Texts row.now line.now }
 {
     let mut good = true;
-    let mut i: usize = 0;
-    while i < 16 {
-        good = good & (column(line, i, row) & five_texts(line, i));
-        i += 1;
+    for i in 0..16 {
+        good &= column(line, i, row) & five_texts(line, i);
     }
     good
 }

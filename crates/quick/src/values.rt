@@ -6,14 +6,14 @@ ghost use Rattle.kinds.specs.Values.{expect_of};
 ghost use Rattle.quick.specs.Rest.{low_val, not_zero, between, media_rest, zeros, latitude_rest, longitude_rest, alike, datum_rest, correlation_rest, sequence_rest, rest_from};
 
 use columns::sets::all_are;
-use judging::fields::{is_met, same_truth};
+use judging::fields::is_met;
 use kinds::Expect;
 
 // The last four bits of a digit are its value, and those of a blank are 0.
 fn digit(b: u8) -> u64
     ensures { result ≡ b % 16 }
 {
-    (b % 16) as u64
+    u64::from(b % 16)
 }
 
 fn read_three(line: &[u8], at: usize) -> u64
@@ -75,7 +75,7 @@ fn are_alike(line: &[u8], a: usize, b: usize) -> bool
     requires { (a < length line.now) × (b < length line.now) }
     ensures { result ≡ alike line.now a b }
 {
-    same_truth(line[a] == 32, line[b] == 32)
+    (line[a] == 32) == (line[b] == 32)
 }
 
 // A media identifier's day of the year and session.

@@ -6,7 +6,7 @@ ghost use Rattle.kinds.specs.Tables.{row_lists};
 ghost use Rattle.reading.specs.Widths.{row_width, plain_width};
 
 use kinds::Point;
-use kinds::tables::{first_at, start_at, wide, width_at};
+use kinds::tables::{first_at, start_at, width_at};
 
 // A control point has the only angles, and an angle and its letter are two fields in one row of the tables.
 fn point_width(column: usize) -> usize
@@ -54,14 +54,10 @@ fn row_width(kind: usize, column: usize) -> usize
     requires { kind < 14 }
     ensures { result ≡ row_width column (get_or row_lists kind []) }
 {
-    let end = wide(start_at(kind + 1));
-    let mut i = wide(start_at(kind));
-    while i < end {
-        let first = wide(first_at(i));
-        if column == first {
-            return wide(width_at(i));
+    for i in usize::from(start_at(kind))..usize::from(start_at(kind + 1)) {
+        if column == usize::from(first_at(i)) {
+            return usize::from(width_at(i));
         }
-        i += 1;
     }
     0
 }

@@ -23,21 +23,15 @@ use kinds::{
 fn zero_before_digits(b: u8) -> u8
     ensures { result ≡ filled b }
 {
-    if 48 <= b {
-        return b;
-    }
-    48
+    b.max(48)
 }
 
 // No value is read and none is written, and no branch is taken: the compiler fills many columns at once.
 fn fill(part: &mut [u8])
     ensures { part.new ≡ map filled part.old }
 {
-    let n = part.len();
-    let mut i: usize = 0;
-    while i < n {
-        part[i] = zero_before_digits(part[i]);
-        i += 1;
+    for b in part.iter_mut() {
+        *b = zero_before_digits(*b);
     }
 }
 

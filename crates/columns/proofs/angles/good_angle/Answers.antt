@@ -4,7 +4,6 @@ use native.Mathlib.Omega.{arith}
 use Prim.Native.Nat.{◌-◌}
 use lib.ListN.{length, take}
 use Rattle.rules.specs.Tests.{◌&◌, ◌≤?◌}
-use Rattle.columns.specs.Types.{way_of}
 use Rattle.columns.specs.Leaves.{digits_up_to}
 use Rattle.columns.proofs.AngleLaws.{agrees, few, angle-wide, angle-good}
 use Rattle.columns.proofs.angles.good_angle.Goals as goal

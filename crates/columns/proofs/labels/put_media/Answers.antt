@@ -1,8 +1,7 @@
 -- Unfit, or the ten characters as one text. Assumes nothing.
-use mathlib.Core.Path.{◌≡◌, sym, ◌∙◌}
+use mathlib.Core.Path.{sym, ◌∙◌}
 use native.Mathlib.Omega.{arith}
-use mathlib.Core.Bool.{true}
-use Rattle.rules.specs.Items.{media, fits}
+use Rattle.rules.specs.Items.{media}
 use Rattle.columns.specs.Types.{media_value}
 use Rattle.columns.proofs.WriteLaws.{kept_unfit}
 use Rattle.columns.proofs.LabelLaws.{media-put, year_small}

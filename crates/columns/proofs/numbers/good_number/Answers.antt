@@ -14,4 +14,4 @@ unfolding ◌&◌
 returns c =
     let a = c.args in
     sym (rw (of≤ c.if-part-gt16.false)
-    (sym (number-good a.lo a.hi a.may a.part.now c.has_form.ensures c.last_of-blank.ensures c.sum-v.ensures.is c.wide.ensures c.wide-2.ensures)))
+    (sym (number-good a.lo a.hi a.may a.part.now c.has_form.ensures c.last_of-blank.ensures c.sum-v.ensures.is c.from.ensures c.from-2.ensures)))

@@ -1,14 +1,9 @@
-use mathlib.Core.Path.{refl, sym, ◌∙◌}
-use native.Mathlib.Omega.{arith}
+use mathlib.Core.Path.{sym, ◌∙◌}
 use Rattle.columns.proofs.Loops.{formed_turn, formed_end}
 use Rattle.columns.proofs.numbers.has_form.Goals as goal
 
-pub loop-i-preserved : goal.loop-i-preserved
-loop-i-preserved c =
-    let a = c.args in
-    (refl, omega arith, formed_turn a.part.now c.loop-i.i a.mark c.loop-i.last c.loop-i.good c.loop-i-test.true ∙ c.loop-i.invariant.2)
+pub loop-b-preserved : goal.loop-b-preserved
+loop-b-preserved c = let s = c.loop-b in formed_turn c.args.part.now s.b-index c.args.mark s.last s.good c.loop-b-test.true ∙ s.invariant
 
 pub returns : goal.returns
-returns c =
-    let a = c.args in
-    sym (formed_end a.part.now c.loop-i.i a.mark c.loop-i.last c.loop-i.good c.loop-i-test.false) ∙ c.loop-i.invariant.2
+returns c = let s = c.loop-b in sym (formed_end c.args.part.now s.b-index c.args.mark s.last s.good c.loop-b-test.false) ∙ s.invariant

@@ -11,4 +11,4 @@ returns-then-w-gt19 c = sym (of≤ (omega (arith, pow_most 20 c.args.w (omega ar
 
 pub returns : goal.returns
 unfolding ◌≤?◌
-returns c = rw c.power.ensures
+returns c = rw c.pow.ensures

@@ -1,9 +1,7 @@
--- By whether there is a column. Assumes nothing.
-use Rattle.columns.proofs.PartLaws.{last_none, last_some}
+use Rattle.std.proofs.Common.{rules}
+use Rattle.columns.specs.Leaves.{last_of}
 use Rattle.columns.proofs.numbers.last_of.Goals as goal
 
-pub returns-then-n-eq0 : goal.returns-then-n-eq0
-returns-then-n-eq0 c = last_none c.args.part.now c.if-n-eq0.true
-
 pub returns : goal.returns
-returns c = last_some c.args.part.now c.if-n-eq0.false
+unfolding last_of
+returns c = search rules

@@ -16,4 +16,4 @@ returns c =
     let a = c.args in
     now_written month (num (pos a.n)) a.out.now (c.if-out-ne6.false ∙ sym month-wide)
     (sym c.month_fits.ensures ∙ c.if-not-month_fits.false)
-    (month-put a.n c.if-out-ne6.false c.put_digits.ensures)
+    (month-put a.n c.if-out-ne6.false (rw c.from.ensures at c.put_digits.ensures))

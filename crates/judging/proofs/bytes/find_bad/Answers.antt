@@ -1,29 +1,18 @@
-use borrow.Author.Rules.{rules}
-use mathlib.Core.Path.{refl}
-use native.Mathlib.Omega.{arith}
-use Rattle.judging.proofs.ByteLaws.{short, too_low, too_high, on, no_feed, other_byte, fine}
+use Rattle.std.proofs.Common.{rules, tests, arith, ◌<◌}
+use Rattle.judging.proofs.ByteLaws.{bad_byte, bad_within, no_feed, other_byte, fine}
 use Rattle.judging.proofs.bytes.find_bad.Goals as goal
 
-pub loop-i-init : goal.loop-i-init
-loop-i-init c = (refl, record { most = omega arith; same = refl })
+pub overflow_add-result : goal.overflow_add-result
+overflow_add-result c = let k : c.in-Some.i < 80 = bad_within c.args.line.now c.middle.ensures c.first_unprintable.ensures c.in-Some.is in omega arith
 
-pub returns-then-n-i : goal.returns-then-n-i
-returns-then-n-i c = search (short, rules)
+pub returns-in-Some : goal.returns-in-Some
+returns-in-Some c = bad_byte c.args.line.now c.middle.ensures c.first_unprintable.ensures c.in-Some.is
 
-pub returns-then-b-lt32 : goal.returns-then-b-lt32
-returns-then-b-lt32 c = search (too_low, rules)
+pub returns-in-None : goal.returns-in-None
+returns-in-None c = no_feed c.args.line.now c.middle.ensures c.first_unprintable.ensures c.in_default.is (search (rules, tests))
 
-pub returns-then-b-gt126 : goal.returns-then-b-gt126
-returns-then-b-gt126 c = search (too_high, rules)
+pub returns-in-Some-eq10 : goal.returns-in-Some-eq10
+returns-in-Some-eq10 c = fine c.args.line.now c.middle.ensures c.first_unprintable.ensures c.in_default.is (search (rules, tests)) (search (rules, tests))
 
-pub loop-i-preserved : goal.loop-i-preserved
-loop-i-preserved c = search (on, rules)
-
-pub returns-then-n-le80 : goal.returns-then-n-le80
-returns-then-n-le80 c = search (no_feed, rules)
-
-pub returns-then-line-ne10 : goal.returns-then-line-ne10
-returns-then-line-ne10 c = search (other_byte, rules)
-
-pub returns : goal.returns
-returns c = search (fine, rules)
+pub returns-in-Some-get : goal.returns-in-Some-get
+returns-in-Some-get c = other_byte c.args.line.now c.middle.ensures c.first_unprintable.ensures c.in_default.is (search (rules, tests)) (search (rules, tests))

@@ -5,8 +5,8 @@ use Rattle.judging.proofs.fields.judge_at.Goals as goal
 
 pub judge_row-requires : goal.judge_row-requires
 judge_row-requires c =
-    at_requires c.args.i c.requires.1 c.requires.0 c.first_at.result c.first_at.ensures c.wide-first.result c.wide-first.ensures
-    c.width_at.result c.width_at.ensures c.wide-width.result c.wide-width.ensures c.item_at.result c.item_at.ensures
+    at_requires c.args.i c.requires.1 c.requires.0 c.first_at.result c.first_at.ensures c.from-first.result c.from-first.ensures
+    c.width_at.result c.width_at.ensures c.from-width.result c.from-width.ensures c.item_at.result c.item_at.ensures
 
 pub returns : goal.returns
 returns c = search (at_is, rules)

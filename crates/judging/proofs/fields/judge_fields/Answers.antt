@@ -1,13 +1,9 @@
 use borrow.Author.Rules.{rules}
-use Rattle.kinds.specs.Values.{expect_of}
 use Rattle.judging.proofs.RowLaws.{walk_from, below, walk_stop, walk_on, walk_done}
 use Rattle.judging.proofs.fields.judge_fields.Goals as goal
 
 pub loop-i-init : goal.loop-i-init
-loop-i-init c =
-    walk_from (expect_of c.args.e) c.args.line.now c.args.kind c.requires.1
-    c.start_at.result c.start_at.ensures c.wide-end.result c.wide-end.ensures
-    c.start_at-2.result c.start_at-2.ensures c.wide-i.result c.wide-i.ensures
+loop-i-init c = search (walk_from, rules)
 
 pub judge_at-j-requires : goal.judge_at-j-requires
 judge_at-j-requires c = (search rules, below c.loop-i.invariant c.loop-i-test.true)

@@ -1,6 +1,6 @@
-use mathlib.Core.Path.{refl}
+use mathlib.Core.Path.{◌≡◌, ◌∙◌}
+use borrow.Author.Rules.{rules}
 use native.Mathlib.Omega.{arith}
-use Prim.Native.Nat.{◌≤◌}
 use lib.ListN.{length, replicate}
 use Rattle.judging.specs.Judging.{item_as}
 use Rattle.judging.proofs.SpotLaws.{spans_80, least-spans, least-laid, bad_from, bad_here, bad_later, bad_last}
@@ -15,21 +15,25 @@ put_least-requires c =
 
 pub loop-k-init : goal.loop-k-init
 loop-k-init c =
-    (refl, omega arith, least-laid c.args.kind c.args.part.now (replicate 80 32) c.requires (spans_80 _ _ c.requires) _ c.put_least.ensures, bad_from (item_as c.args.kind (length c.args.part.now)) c.args.part.now c.requires)
+    (search rules, least-laid c.args.kind c.args.part.now (replicate 80 32) c.requires (spans_80 _ _ c.requires) _ c.put_least.ensures, bad_from (item_as c.args.kind (length c.args.part.now)) c.args.part.now c.requires)
 
 pub can_begin-requires : goal.can_begin-requires
 can_begin-requires c =
     let v = c.loop-k.invariant in
-    (omega arith, c.requires, v.2)
+    (omega arith, c.requires, v.1)
 
 pub returns-then-not-can_begin : goal.returns-then-not-can_begin
 returns-then-not-can_begin c =
-    bad_here (item_as c.args.kind (length c.args.part.now)) c.args.part.now c.requires c.loop-k.k c.loop-k-test.true c.can_begin.ensures (c.if-not-can_begin.true) c.loop-k.invariant.3
+    let v = c.loop-k.invariant in
+    bad_here (item_as c.args.kind (length c.args.part.now)) c.args.part.now c.requires c.loop-k.k (omega arith) c.can_begin.ensures (c.if-not-can_begin.true) v.2
 
 pub loop-k-preserved : goal.loop-k-preserved
 loop-k-preserved c =
-    (refl, omega arith, c.loop-k.invariant.2, bad_later (item_as c.args.kind (length c.args.part.now)) c.args.part.now c.requires c.loop-k.k c.loop-k-test.true c.can_begin.ensures (c.if-not-can_begin.false) c.loop-k.invariant.3)
+    let v = c.loop-k.invariant in
+    (v.0, v.1, bad_later (item_as c.args.kind (length c.args.part.now)) c.args.part.now c.requires c.loop-k.k (omega arith) c.can_begin.ensures (c.if-not-can_begin.false) v.2)
 
 pub returns : goal.returns
 returns c =
-    bad_last (item_as c.args.kind (length c.args.part.now)) c.args.part.now c.requires c.loop-k.k c.loop-k-test.false c.loop-k.invariant.3
+    let v = c.loop-k.invariant in
+    let e : c.saturating_sub-last.result ≡ c.loop-k.k = omega arith in
+    e ∙ bad_last (item_as c.args.kind (length c.args.part.now)) c.args.part.now c.requires c.loop-k.k (omega arith) v.2

@@ -14,7 +14,7 @@ returns-in-Constant c =
 
 pub returns-in-Number : goal.returns-in-Number
 returns-in-Number c =
-    least-number (length c.args.out.now) _ _ _ c.in-Number.is _ c.long.ensures c.put_digits.ensures
+    least-number (length c.args.out.now) _ _ _ c.in-Number.is _ c.from.ensures c.put_digits.ensures
 
 pub returns-in-Height : goal.returns-in-Height
 returns-in-Height c =

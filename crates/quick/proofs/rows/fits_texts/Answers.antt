@@ -5,14 +5,14 @@ use Rattle.quick.proofs.CodeLaws.{five_turn, texts_from}
 use Rattle.quick.proofs.rows.fits_texts.Goals as goal
 
 pub loop-i-init : goal.loop-i-init
-loop-i-init c = (c.requires, omega arith, λ q j h. absurd (omega arith))
+loop-i-init c = (c.requires, λ q j h. absurd (omega arith))
 
 pub loop-i-preserved : goal.loop-i-preserved
 loop-i-preserved c =
     let a = c.args in
-    (c.loop-i.invariant.0, omega arith, five_turn (λ j. col_at a.row.now a.line.now j && five_texts a.line.now j) c.loop-i.good (c.column.result && c.five_texts.result) c.loop-i.i c.loop-i.invariant.2 (rw (c.column.ensures, c.five_texts.ensures)))
+    (c.loop-i.invariant.0, five_turn (λ j. col_at a.row.now a.line.now j && five_texts a.line.now j) c.loop-i.good (c.column.result && c.five_texts.result) c.loop-i.i c.loop-i.invariant.1 (rw (c.column.ensures, c.five_texts.ensures)))
 
 pub returns : goal.returns
 returns c =
     let a = c.args in
-    λ q. texts_from a.row.now a.line.now (λ j h. c.loop-i.invariant.2 q j (omega (arith, h)))
+    λ q. texts_from a.row.now a.line.now (λ j h. c.loop-i.invariant.1 q j (omega (arith, h)))

@@ -11,8 +11,8 @@ first_at-requires c = below c.loop-i.invariant c.loop-i-test.true
 pub width_at-requires : goal.width_at-requires
 width_at-requires c = below c.loop-i.invariant c.loop-i-test.true
 
-pub returns-then-column-first : goal.returns-then-column-first
-returns-then-column-first c = search (seek_found, rules)
+pub returns-then-column-from : goal.returns-then-column-from
+returns-then-column-from c = search (seek_found, rules)
 
 pub loop-i-preserved : goal.loop-i-preserved
 loop-i-preserved c = search (seek_on, rules)

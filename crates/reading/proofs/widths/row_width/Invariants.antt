@@ -1,10 +1,6 @@
 -- The invariant: no row before i starts at the column, so that the width is that of the rows from i on.
-use Prim.Native.Nat.{◌-◌}
 use Rattle.reading.proofs.WidthLaws.{Sought}
 use Rattle.reading.proofs.widths.row_width.Given as goal
 
 abbrev pub invariant-loop-i : goal.invariant-loop-i
-invariant-loop-i l = Sought l.column l.kind l.end l.i
-
-abbrev pub decreases-loop-i : goal.decreases-loop-i
-decreases-loop-i l = l.end - l.i
+invariant-loop-i l = Sought l.column l.kind l.i-end l.i

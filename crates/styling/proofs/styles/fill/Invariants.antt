@@ -1,13 +1,9 @@
--- The invariant: the columns before i are filled, and filling those from i on gives the goal. Assumes nothing.
+-- The invariant: the columns before this one are filled, and filling those from it on gives the goal. Assumes nothing.
 use mathlib.Core.Path.{◌≡◌}
 use mathlib.Core.List.{◌++◌, map}
-use Prim.Native.Nat.{◌≤◌, ◌-◌}
-use lib.ListN.{length, take, drop}
+use lib.ListN.{take, drop}
 use Rattle.styling.specs.Styling.{filled}
 use Rattle.styling.proofs.styles.fill.Given as goal
 
-abbrev pub invariant-loop-i : goal.invariant-loop-i
-invariant-loop-i l = (l.n ≡ length l.part) × (l.i ≤ l.n) × (take l.i l.part ++ map filled (drop l.i l.part) ≡ map filled l.initial.part)
-
-abbrev pub decreases-loop-i : goal.decreases-loop-i
-decreases-loop-i l = l.n - l.i
+abbrev pub invariant-loop-b : goal.invariant-loop-b
+invariant-loop-b l = take l.b-index l.part ++ map filled (drop l.b-index l.part) ≡ map filled l.initial.part
