@@ -3,6 +3,7 @@ use mathlib.Core.Path.{◌≡◌, refl, ◌∙◌, ap}
 use mathlib.Core.List.{List}
 use Prim.Native.Nat.{ℕ}
 use lib.ListN.{get_or}
+use Rattle.std.specs.Prelude.{Ok, Err}
 use Rattle.rules.specs.Tests.{◌&◌, ◌≤?◌, ◌=?◌, within}
 use Rattle.rules.specs.Characters.{ascii, is_digit, is_letter}
 use Rattle.rules.specs.Digits.{val}
@@ -12,7 +13,7 @@ use Rattle.rules.specs.Kinds.{data_codes, kind_from, starred, kind_between, kind
 use Rattle.columns.specs.Types.{nat_of, int_of, media_of, media_value, four, four_of}
 use Rattle.columns.proofs.RoundTrip.{height_same}
 use Rattle.kinds.specs.declared.Sequence.{Sequence}
-use Rattle.kinds.specs.declared.Judged.{Judged}
+use Rattle.kinds.specs.declared.Flaw.{Flaw}
 use Rattle.kinds.specs.declared.Record.{Record}
 use Rattle.kinds.specs.declared.Record.TheVariants as R
 use Rattle.kinds.specs.Values.{text_of, two, two_text, three, three_text, sequence_of, sequence_value, kind_number, code_of, values_of, meaning_of, char_of, record_from, record_of, judged_of}
@@ -23,15 +24,15 @@ sequence_back Sequence.Missing = refl
 sequence_back (Sequence.Number n) = refl
 
 -- the answers of the judge
-pub good_is : (v : Verdict) → judged_of v ≡ Judged.Good → v ≡ ok
+pub good_is : (v : Verdict) → judged_of v ≡ Ok tt → v ≡ ok
 unfolding judged_of
 good_is ok e = refl
 good_is (fault n c) e = cc
 
-pub bad_is : (v : Verdict) (n c : ℕ) → judged_of v ≡ Judged.Bad n c → v ≡ fault n c
+pub bad_is : (v : Verdict) (w : Flaw) → judged_of v ≡ Err w → v ≡ fault w.number w.column
 unfolding judged_of
-bad_is ok n c e = cc
-bad_is (fault n' c') n c e = cc
+bad_is ok w e = cc
+bad_is (fault n c) w e = cc
 
 -- of the kind that the record is
 from_values : (r : Record) (a b c : List ℕ) → record_from (kind_number r) (code_of r) (λ i. get_or (values_of r a b c) i gap) ≡ r
