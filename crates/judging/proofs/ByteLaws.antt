@@ -7,12 +7,14 @@ use native.Mathlib.Numerals.{add-one}
 use native.Mathlib.Omega.{arith}
 use lib.ListN.{length, drop, get_or, drop_of_length-le}
 use lib.Seq.{drop-cons}
+use Rattle.std.specs.Prelude.{Ok, Err}
 use Rattle.rules.specs.Characters.{is_printable}
 use Rattle.rules.specs.Fields.{ok, fault, check, ◌⨾◌}
 use Rattle.rules.specs.Records.{bytes}
 use Rattle.rules.proofs.Truth.{of_within, to_within, of≡, of≢, is_no}
-use Rattle.kinds.specs.declared.Judged.{Judged}
+use Rattle.kinds.specs.declared.Flaw.{Flaw}
 use Rattle.kinds.specs.Values.{judged_of}
+use Rattle.kinds.proofs.ValueLaws.{flaw}
 
 printable : (b : ℕ) → 32 ≤ b → b ≤ 126 → is_printable b ≡ true
 unfolding is_printable
@@ -48,14 +50,14 @@ module _ (f : List ℕ) (i : ℕ) where
   good h k e = rw (left h, add-one i, drop-cons f i 0, e)
 
 module _ {f : List ℕ} {i : ℕ} (s : Sought f i) where
-  pub short : i < 80 → length f ≤ i → Judged.Bad 3 (i + 1) ≡ judged_of (bytes 80 1 f)
-  short h k = unfold judged_of in ap judged_of (sym (none f i h k) ∙ s.same)
+  pub short : i < 80 → length f ≤ i → {w : Flaw} → w ≡ flaw 3 (i + 1) → Err w ≡ judged_of (bytes 80 1 f)
+  short h k z = rw z (unfold judged_of in ap judged_of (sym (none f i h k) ∙ s.same))
 
-  pub too_low : i < 80 → i < length f → get_or f i 0 < 32 → Judged.Bad 4 (i + 1) ≡ judged_of (bytes 80 1 f)
-  too_low h k b = unfold judged_of in ap judged_of (sym (bad f i h k (low _ b)) ∙ s.same)
+  pub too_low : i < 80 → i < length f → get_or f i 0 < 32 → {w : Flaw} → w ≡ flaw 4 (i + 1) → Err w ≡ judged_of (bytes 80 1 f)
+  too_low h k b z = rw z (unfold judged_of in ap judged_of (sym (bad f i h k (low _ b)) ∙ s.same))
 
-  pub too_high : i < 80 → i < length f → 126 < get_or f i 0 → Judged.Bad 4 (i + 1) ≡ judged_of (bytes 80 1 f)
-  too_high h k b = unfold judged_of in ap judged_of (sym (bad f i h k (high _ b)) ∙ s.same)
+  pub too_high : i < 80 → i < length f → 126 < get_or f i 0 → {w : Flaw} → w ≡ flaw 4 (i + 1) → Err w ≡ judged_of (bytes 80 1 f)
+  too_high h k b z = rw z (unfold judged_of in ap judged_of (sym (bad f i h k (high _ b)) ∙ s.same))
 
   pub on : i < 80 → i < length f → 32 ≤ get_or f i 0 → get_or f i 0 ≤ 126 → Sought f (i + 1)
   on h k p q = record { most = omega arith; same = sym (good f i h k (printable _ p q)) ∙ s.same }
@@ -80,11 +82,11 @@ module _ (f : List ℕ) where
   fed k e = rw (drop-cons f 80 0 k, of≡ e)
 
 module _ {f : List ℕ} {i : ℕ} (s : Sought f i) (h : 80 ≤ i) where
-  pub no_feed : length f ≤ 80 → Judged.Bad 3 81 ≡ judged_of (bytes 80 1 f)
-  no_feed k = unfold judged_of in ap judged_of (sym (unfed f k) ∙ whole s h)
+  pub no_feed : length f ≤ 80 → {w : Flaw} → w ≡ flaw 3 81 → Err w ≡ judged_of (bytes 80 1 f)
+  no_feed k z = rw z (unfold judged_of in ap judged_of (sym (unfed f k) ∙ whole s h))
 
-  pub other_byte : 80 < length f → (get_or f 80 0 ≡ 10 → ⊥) → Judged.Bad 5 81 ≡ judged_of (bytes 80 1 f)
-  other_byte k e = unfold judged_of in ap judged_of (sym (fed_otherwise f k e) ∙ whole s h)
+  pub other_byte : 80 < length f → (get_or f 80 0 ≡ 10 → ⊥) → {w : Flaw} → w ≡ flaw 5 81 → Err w ≡ judged_of (bytes 80 1 f)
+  other_byte k e z = rw z (unfold judged_of in ap judged_of (sym (fed_otherwise f k e) ∙ whole s h))
 
-  pub fine : 80 < length f → get_or f 80 0 ≡ 10 → Judged.Good ≡ judged_of (bytes 80 1 f)
+  pub fine : 80 < length f → get_or f 80 0 ≡ 10 → Ok tt ≡ judged_of (bytes 80 1 f)
   fine k e = unfold judged_of in ap judged_of (sym (fed f k e) ∙ whole s h)

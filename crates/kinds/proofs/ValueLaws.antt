@@ -3,7 +3,8 @@ use mathlib.Core.Path.{◌≡◌, refl, ◌∙◌, ap}
 use mathlib.Core.List.{List}
 use Prim.Native.Nat.{ℕ}
 use lib.ListN.{get_or}
-use Rattle.std.specs.Prelude.{Ok, Err}
+use Rattle.std.specs.Prelude.{Result, Ok, Err, IsErrAnd}
+use Rattle.std.proofs.lemmas.Result.{err_from_is_err_and}
 use Rattle.rules.specs.Tests.{◌&◌, ◌≤?◌, ◌=?◌, within}
 use Rattle.rules.specs.Characters.{ascii, is_digit, is_letter}
 use Rattle.rules.specs.Digits.{val}
@@ -23,7 +24,14 @@ unfolding sequence_of sequence_value
 sequence_back Sequence.Missing = refl
 sequence_back (Sequence.Number n) = refl
 
--- the answers of the judge
+-- ---- the answers of the judge
+abbrev pub flaw : (number column : ℕ) → Flaw
+flaw n c = record { number = n; column = c }
+
+-- what a `?` hands on
+pub handed_on : {T E : Type 0} {r : Result T E} {e : E} → IsErrAnd r (λ y. y ≡ e) → r ≡ Err e
+handed_on {r} h = let p = err_from_is_err_and r h in rw (p.1, p.2)
+
 pub good_is : (v : Verdict) → judged_of v ≡ Ok tt → v ≡ ok
 unfolding judged_of
 good_is ok e = refl
