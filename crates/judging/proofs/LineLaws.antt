@@ -24,9 +24,8 @@ use Rattle.columns.proofs.Loops.{&_is}
 use Rattle.kinds.specs.declared.Flaw.{Flaw}
 use Rattle.kinds.specs.declared.Expect.TheVariants as X
 use Rattle.kinds.specs.Values.{judged_of, expect_of}
-use Rattle.kinds.proofs.ValueLaws.{flaw, good_is}
+use Rattle.kinds.proofs.ValueLaws.{flaw, good_is, bad_then}
 use Rattle.judging.specs.Judging.{clean, sized, spans}
-use Rattle.judging.proofs.RowLaws.{bad_then}
 
 module _ (l : List ℕ) where
   pub clean_short : length l ≤ 80 → false ≡ clean l

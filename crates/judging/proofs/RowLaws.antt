@@ -34,19 +34,10 @@ use Rattle.judging.specs.Judging.{part, number_in, agrees_in, judge_row, judge_r
 then_on : (u v : Verdict) {w x : Verdict} → w ≡ x → (u ⨾ v) ⨾ w ≡ u ⨾ (v ⨾ x)
 then_on u v {w} e = ⨾_assoc u v w ∙ ap (λ y. u ⨾ (v ⨾ y)) e
 
--- the answers of the code
-pub bad_then : (u v : Verdict) (w : Flaw) → judged_of u ≡ Err w → judged_of (u ⨾ v) ≡ Err w
-unfolding ◌⨾◌
-bad_then u v w e = rw (bad_is u w e) (unfold judged_of in refl)
-
 -- naming a 9 elsewhere leaves the fault the first
 pointed_then : (p n c : ℕ) (v : Verdict) → pointed p (fault n c) ⨾ v ≡ pointed p (fault n c)
 unfolding pointed ◌⨾◌
 pointed_then p n c v = cases (n =? 9) (λ e. rw e) (λ e. rw e)
-
-pub good_then : (u v : Verdict) → judged_of u ≡ Ok tt → u ⨾ v ≡ v
-unfolding ◌⨾◌
-good_then u v e = rw (good_is u e)
 
 pub ok_good : (u : Verdict) → is_ok u ≡ true → Ok tt ≡ judged_of u
 unfolding judged_of is_ok

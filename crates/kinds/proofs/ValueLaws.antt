@@ -1,5 +1,5 @@
 -- A record made of values and texts is the record that its meaning gives back.
-use mathlib.Core.Path.{◌≡◌, refl, ◌∙◌, ap}
+use mathlib.Core.Path.{◌≡◌, refl, sym, ◌∙◌, ap}
 use mathlib.Core.List.{List}
 use Prim.Native.Nat.{ℕ}
 use lib.ListN.{get_or}
@@ -9,7 +9,7 @@ use Rattle.rules.specs.Tests.{◌&◌, ◌≤?◌, ◌=?◌, within}
 use Rattle.rules.specs.Characters.{ascii, is_digit, is_letter}
 use Rattle.rules.specs.Digits.{val}
 use Rattle.rules.specs.Items.{gap}
-use Rattle.rules.specs.Fields.{Verdict, ok, fault}
+use Rattle.rules.specs.Fields.{Verdict, ok, fault, ◌⨾◌}
 use Rattle.rules.specs.Kinds.{data_codes, kind_from, starred, kind_between, kind_of}
 use Rattle.columns.specs.Types.{nat_of, int_of, media_of, media_value, four, four_of}
 use Rattle.columns.proofs.RoundTrip.{height_same}
@@ -41,6 +41,30 @@ pub bad_is : (v : Verdict) (w : Flaw) → judged_of v ≡ Err w → v ≡ fault 
 unfolding judged_of
 bad_is ok w e = cc
 bad_is (fault n c) w e = cc
+
+-- one after the other
+pub bad_then : (u v : Verdict) (w : Flaw) → judged_of u ≡ Err w → judged_of (u ⨾ v) ≡ Err w
+unfolding ◌⨾◌
+bad_then u v w e = rw (bad_is u w e) (unfold judged_of in refl)
+
+pub good_then : (u v : Verdict) → judged_of u ≡ Ok tt → u ⨾ v ≡ v
+unfolding ◌⨾◌
+good_then u v e = rw (good_is u e)
+
+pub ⨾_ok : (u : Verdict) → (u ⨾ ok) ≡ u
+unfolding ◌⨾◌
+⨾_ok ok = refl
+⨾_ok (fault n c) = refl
+
+-- what `?` hands on is the first fault
+pub stop : (u v : Verdict) {x r : Result (Unit {0}) Flaw} {w : Flaw} → r ≡ judged_of u → r ≡ Err w → IsErrAnd x (λ y. y ≡ w) → x ≡ judged_of (u ⨾ v)
+stop u v {w = w} e q h = handed_on h ∙ sym (bad_then u v w (sym e ∙ q))
+
+pub past : (u v : Verdict) {x r : Result (Unit {0}) Flaw} → r ≡ judged_of u → r ≡ Ok tt → x ≡ judged_of v → x ≡ judged_of (u ⨾ v)
+past u v e q h = h ∙ ap judged_of (sym (good_then u v (sym e ∙ q)))
+
+pub last : (u : Verdict) {x : Result (Unit {0}) Flaw} → x ≡ judged_of u → x ≡ judged_of (u ⨾ ok)
+last u e = e ∙ ap judged_of (sym (⨾_ok u))
 
 -- of the kind that the record is
 from_values : (r : Record) (a b c : List ℕ) → record_from (kind_number r) (code_of r) (λ i. get_or (values_of r a b c) i gap) ≡ r

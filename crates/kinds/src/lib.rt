@@ -754,12 +754,12 @@ pub struct Fault {
 }
 
 impl Fault {
-    pub fn new(number: u32, record: usize, column: usize) -> Fault
-        ensures { result ≡ record { number = number; «record» = «record»; column = column } }
+    pub fn new(number: u32, r: usize, column: usize) -> Fault
+        ensures { result ≡ record { number = number; «record» = r; column = column } }
     {
         Fault {
             number,
-            record,
+            record: r,
             column,
         }
     }
