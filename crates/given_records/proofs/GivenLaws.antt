@@ -6,12 +6,12 @@ use Prim.Native.Nat.{ℕ, ◌+◌, ◌≤◌}
 use native.Mathlib.Omega.{arith}
 use lib.Dec.{lit≤}
 use lib.ListN.{length}
-use Rattle.std.specs.Prelude.{Result, Ok, Err, IsErrAnd}
+use Rattle.std.specs.Prelude.{Result}
 use Rattle.rules.specs.Tests.{◌&◌, ◌=?◌, within}
 use Rattle.rules.specs.Characters.{is_digit, is_letter, letter, digit, ◌or◌, member}
 use Rattle.rules.specs.Digits.{val}
 use Rattle.rules.specs.Items.{Value, text, fits, number}
-use Rattle.rules.specs.Fields.{Verdict, ok, fault, check, ◌⨾◌, anything, given, entries_of, agrees, agrees_with, judge_each, judge}
+use Rattle.rules.specs.Fields.{check, ◌⨾◌, anything, given, entries_of, agrees, agrees_with, judge_each, judge}
 use Rattle.rules.specs.Records.{sequence, told, of_kind, judge_given}
 use Rattle.rules.specs.Kinds.{data_codes, kind_from, starred, kind_between, kind_of, known}
 use Rattle.rules.specs.Layouts.{at, layouts, layout}
@@ -25,7 +25,7 @@ use Rattle.kinds.specs.declared.Record.{Record}
 use Rattle.kinds.specs.declared.Record.TheVariants as R
 use Rattle.kinds.specs.declared.Flaw.{Flaw}
 use Rattle.kinds.specs.Values.{kind_number, code_of, values_of, meaning_of, judged_of}
-use Rattle.kinds.proofs.ValueLaws.{code_kind, flaw, ⨾_ok, stop, past}
+use Rattle.kinds.proofs.ValueLaws.{code_kind, ⨾_ok}
 use Rattle.given_records.specs.Judging.{layout_of, judge_record}
 use Rattle.given_records.proofs.JudgeLaws.{⨾_same}
 use Rattle.given_records.proofs.KindLaws.{word_of}

@@ -1,11 +1,10 @@
 -- Tests in a row: one law for each way through a function. Assumes nothing.
-use mathlib.Core.Path.{◌≡◌, refl, sym, ◌∙◌, ap}
+use mathlib.Core.Path.{◌≡◌, refl, sym}
 use mathlib.Core.Bool.{Bool, true, false, not, ◌&&◌, ◌||◌}
 use mathlib.Core.List.{List, [], ◌∷◌, ◌++◌}
 use Prim.Native.Nat.{ℕ}
 use lib.Dec.{eqb}
 use lib.ListN.{length}
-use Rattle.std.specs.Prelude.{Ok, Err}
 use Rattle.rules.specs.Tests.{◌&◌, ◌=?◌, all}
 use Rattle.rules.specs.Characters.{is_blank}
 use Rattle.rules.specs.Items.{Test, word, text, on_text, passes, width, shape, value_of, fits, good}
@@ -13,11 +12,6 @@ use Rattle.rules.specs.Fields.{Verdict, ok, fault, check, ◌⨾◌, same_truth,
 use Rattle.rules.proofs.Truth.{of≡}
 use Rattle.rules.proofs.FieldLaws.{⨾_assoc}
 use Rattle.columns.proofs.Loops.{&_is}
-use Rattle.columns.specs.declared.Height.{Height}
-use Rattle.columns.specs.Types.{height_value}
-use Rattle.kinds.specs.declared.Flaw.{Flaw}
-use Rattle.kinds.specs.Values.{judged_of}
-use Rattle.kinds.proofs.ValueLaws.{flaw, ⨾_ok}
 
 -- what follows a good test alone matters
 pub ⨾_same : (b : Bool) (n c : ℕ) (u v : Verdict) → (b ≡ true → u ≡ v) → (check b n c ⨾ u) ≡ (check b n c ⨾ v)
@@ -34,16 +28,6 @@ unfolding ◌⨾◌
 fault_then n c v = refl
 
 pub ruleset firsts = (ok_then, fault_then)
-
--- ---- one test
-module _ (n c : ℕ) where
-  pub test_good : {t : Bool} → t ≡ true → Ok tt ≡ judged_of (check t n c)
-  unfolding judged_of check
-  test_good h = rw h
-
-  pub test_bad : {t : Bool} → t ≡ false → {w : Flaw} → w ≡ flaw n c → Err w ≡ judged_of (check t n c)
-  unfolding judged_of check
-  test_bad h e = rw (h, e)
 
 -- ---- words
 twice : (p : Bool) → (true & p & (true & p)) ≡ p

@@ -1,5 +1,5 @@
 // One value, judged by itself.
-#![tactic(auto, using(crate::proofs::JudgeLaws::firsts), unfolding(kinds::specs::Values::judged_of))]
+#![tactic(auto, using(crate::proofs::JudgeLaws::firsts), unfolding(kinds::specs::Values::judged_of, rules::specs::Fields::check, columns::specs::Types::count_value, columns::specs::Types::four_of, kinds::specs::Values::two_text, kinds::specs::Values::three_text))]
 
 ghost use Rattle.std.specs.Prelude.{◌≡◌, false, not, ◌∷◌, [], pos};
 ghost use Rattle.rules.specs.Tests.{◌≤?◌, ◌=?◌};

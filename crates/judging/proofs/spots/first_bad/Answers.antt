@@ -1,6 +1,5 @@
 use mathlib.Core.Path.{refl}
 use native.Mathlib.Omega.{arith}
-use Prim.Native.Nat.{◌≤◌}
 use lib.ListN.{length, replicate}
 use Rattle.judging.specs.Judging.{item_as}
 use Rattle.judging.proofs.SpotLaws.{spans_80, least-spans, least-laid, bad_from, bad_here, bad_later, bad_last}

@@ -1,8 +1,5 @@
 -- The trial is the beginning with the rest of the end behind it.
 use native.Mathlib.Omega.{arith}
-use Prim.Native.Nat.{◌≤◌}
-use lib.ListN.{length}
-use Rattle.judging.specs.Judging.{item_as}
 use Rattle.judging.proofs.SpotLaws.{spans_80, trial_room, trial_spans, trial_good}
 use Rattle.judging.proofs.spots.goes_on.Goals as goal
 
