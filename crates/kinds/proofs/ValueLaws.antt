@@ -3,7 +3,8 @@ use mathlib.Core.Path.{◌≡◌, refl, sym, ◌∙◌, ap}
 use mathlib.Core.List.{List}
 use Prim.Native.Nat.{ℕ}
 use lib.ListN.{get_or}
-use Rattle.std.specs.Prelude.{Result, Ok, Err, IsErrAnd}
+use Rattle.std.specs.Prelude.{Result, Ok, Err, IsErrAnd, MatchResult}
+use Rattle.std.proofs.Common.{subst}
 use Rattle.std.proofs.lemmas.Result.{err_from_is_err_and}
 use Rattle.rules.specs.Tests.{◌&◌, ◌≤?◌, ◌=?◌, within}
 use Rattle.rules.specs.Characters.{ascii, is_digit, is_letter}
@@ -31,6 +32,15 @@ flaw n c = record { number = n; column = c }
 -- what a `?` hands on
 pub handed_on : {T E : Type 0} {r : Result T E} {e : E} → IsErrAnd r (λ y. y ≡ e) → r ≡ Err e
 handed_on {r} h = let p = err_from_is_err_and r h in rw (p.1, p.2)
+
+-- what a fault mapped by `map_err` was
+pub mapped_ok : {T E D : Type 0} (r : Result T E) {m : Result T D} (P : E → D → Type 0) {x : T} → MatchResult r (λ y. m ≡ Ok y) (λ e. IsErrAnd m (P e)) → m ≡ Ok x → r ≡ Ok x
+mapped_ok (Ok y) P c h = cc
+mapped_ok (Err e) P c h = absurd (subst (λ q. IsErrAnd q (P e)) h c)
+
+pub mapped_err : {T E D : Type 0} (r : Result T E) {m : Result T D} (P : E → D → Type 0) {d : D} → MatchResult r (λ y. m ≡ Ok y) (λ e. IsErrAnd m (P e)) → m ≡ Err d → (e : E) × (r ≡ Err e) × P e d
+mapped_err (Ok y) P c h = absurd (cc)
+mapped_err (Err e) P c h = (e, refl, subst (λ q. IsErrAnd q (P e)) h c)
 
 pub good_is : (v : Verdict) → judged_of v ≡ Ok tt → v ≡ ok
 unfolding judged_of
