@@ -44,7 +44,7 @@ module _ (s : Sequence) (w : Record) (a b c out : List ℕ) where
   unfolding write_output
   refused_leaves {f} p = p.output ∙ rw (refused_bad _ f (sym p.answer))
 
-  module _ {left : List ℕ} (p : Promised s w a b c out Ok tt left) where
+  module _ {left : List ℕ} (p : Promised s w a b c out (Ok tt) left) where
     all_ok : is_ok (write_verdict (length out) (kind_number w) (sequence_value s) (meaning_of w a b c)) ≡ true
     all_ok = ap is_ok (done_ok _ (sym p.answer)) ∙ unfold is_ok in refl
 
