@@ -6,11 +6,12 @@ use Prim.Native.Nat.{ℕ, ◌+◌, ◌≤◌}
 use native.Mathlib.Omega.{arith}
 use lib.Dec.{lit≤}
 use lib.ListN.{length}
+use Rattle.std.specs.Prelude.{Result}
 use Rattle.rules.specs.Tests.{◌&◌, ◌=?◌, within}
 use Rattle.rules.specs.Characters.{is_digit, is_letter, letter, digit, ◌or◌, member}
 use Rattle.rules.specs.Digits.{val}
 use Rattle.rules.specs.Items.{Value, text, fits, number}
-use Rattle.rules.specs.Fields.{Verdict, ok, fault, check, ◌⨾◌, anything, given, entries_of, agrees, agrees_with, judge_each, judge}
+use Rattle.rules.specs.Fields.{check, ◌⨾◌, anything, given, entries_of, agrees, agrees_with, judge_each, judge}
 use Rattle.rules.specs.Records.{sequence, told, of_kind, judge_given}
 use Rattle.rules.specs.Kinds.{data_codes, kind_from, starred, kind_between, kind_of, known}
 use Rattle.rules.specs.Layouts.{at, layouts, layout}
@@ -21,11 +22,11 @@ use Rattle.columns.specs.Types.{set_of, count_value}
 use Rattle.kinds.specs.declared.Job.{Job}
 use Rattle.kinds.specs.declared.Record.{Record}
 use Rattle.kinds.specs.declared.Record.TheVariants as R
-use Rattle.kinds.specs.declared.Judged.{Judged}
+use Rattle.kinds.specs.declared.Flaw.{Flaw}
 use Rattle.kinds.specs.Values.{kind_number, code_of, values_of, meaning_of, judged_of}
-use Rattle.kinds.proofs.ValueLaws.{code_kind}
-use Rattle.given_records.specs.Judging.{after_of, layout_of, judge_record}
-use Rattle.given_records.proofs.JudgeLaws.{after-after, ⨾_same}
+use Rattle.kinds.proofs.ValueLaws.{code_kind, ⨾_ok}
+use Rattle.given_records.specs.Judging.{layout_of, judge_record}
+use Rattle.given_records.proofs.JudgeLaws.{⨾_same}
 use Rattle.given_records.proofs.KindLaws.{word_of}
 use Rattle.std.specs.Prelude.{Option}
 
@@ -84,14 +85,9 @@ module _ (r : Record) (a b c : List ℕ) (e : kind_of (code_of r) ≡ kind_numbe
   judge-known = rw (of_kind_lem, told_is)
 
 -- one arm of the match
-pub judge_arm : (j : Judged) (a b c : List ℕ) {w : Record} (r : Record) {x : Judged} → w ≡ r → 1 ≤ kind_number r
-    → x ≡ after_of j (judge anything (entries_of (layout_of (kind_number r)) (values_of r a b c))) → x ≡ after_of j (judge_record w a b c)
-judge_arm j a b c r e h q = q ∙ sym (rw e (ap (after_of j) (judge-known r a b c (code_kind r (λ z. absurd (omega arith))))))
-
-⨾_ok : (u : Verdict) → (u ⨾ ok) ≡ u
-unfolding ◌⨾◌
-⨾_ok ok = refl
-⨾_ok (fault n c) = refl
+pub judge_arm : (a b c : List ℕ) {w : Record} (r : Record) {x : Result (Unit {0}) Flaw} → w ≡ r → 1 ≤ kind_number r
+    → x ≡ judged_of (judge anything (entries_of (layout_of (kind_number r)) (values_of r a b c))) → x ≡ judged_of (judge_record w a b c)
+judge_arm a b c r e h q = q ∙ sym (rw e (ap judged_of (judge-known r a b c (code_kind r (λ z. absurd (omega arith))))))
 
 -- a record of one text
 pub judge-text : (s : Set) (t : List ℕ) → judge anything (entries_of (at 11 (word_of 70 s) ∷ []) (text t ∷ [])) ≡ check (fits (word_of 70 s) (text t)) 9 11
@@ -139,24 +135,27 @@ unfolding kind_number layout_of layouts values_of word_of set_of
 job_same k a h = sym (rw (told_is (R.Job k) a [] [] (job_zero k a h)) (judge-text Set.Printable a))
 
 -- the text is judged only after a good code, whose layout is that of job codes
-pub job_judged : (j : Judged) (k : Job) (a : List ℕ) {s r : Judged} {t : Bool} → t ≡ (is_letter k.first & member (letter or digit) k.second) → s ≡ after_of j (check t 9 7)
-    → r ≡ after_of s (check (fits (word_of 70 Set.Printable) (text a)) 9 11) → r ≡ after_of j (judge_record (R.Job k) a [] [])
+job_judged : (k : Job) (a : List ℕ) → (check (is_letter k.first & member (letter or digit) k.second) 9 7 ⨾ check (fits (word_of 70 Set.Printable) (text a)) 9 11) ≡ judge_record (R.Job k) a [] []
 unfolding judge_record kind_number
-job_judged j k a h d e =
+job_judged k a =
     let t = of_kind chapter4 0 (meaning_of (R.Job k) a [] []) in
-    e ∙ rw (d, h ∙ job_kind k.first k.second ∙ job_of_kind k a) (after-after j (check t 9 7) _ ∙ ap (after_of j) (⨾_same t 9 7 _ _ (job_same k a)))
+    ap (λ t. check t 9 7 ⨾ check (fits (word_of 70 Set.Printable) (text a)) 9 11) (job_kind k.first k.second ∙ job_of_kind k a) ∙ ⨾_same t 9 7 _ _ (job_same k a)
+
+pub job_is : (k : Job) (a : List ℕ) {t : Bool} {x : Result (Unit {0}) Flaw} → t ≡ (is_letter k.first & member (letter or digit) k.second)
+    → x ≡ judged_of (check t 9 7 ⨾ check (fits (word_of 70 Set.Printable) (text a)) 9 11) → x ≡ judged_of (judge_record (R.Job k) a [] [])
+job_is k a h q = q ∙ rw h (ap judged_of (job_judged k a))
 
 -- a job code has one text
-pub job_arm : (j : Judged) (k : Job) (a b c : List ℕ) {w : Record} → w ≡ R.Job k → after_of j (judge_record (R.Job k) a [] []) ≡ after_of j (judge_record w a b c)
+pub job_arm : (k : Job) (a b c : List ℕ) {w : Record} → w ≡ R.Job k → judged_of (judge_record (R.Job k) a [] []) ≡ judged_of (judge_record w a b c)
 unfolding judge_record meaning_of values_of
-job_arm j k a b c e = sym (rw e)
+job_arm k a b c e = sym (rw e)
 
 -- ---- the whole judgement
 pub sequence_fits : (x : Option ℕ) {t : Bool} → t ≡ fits (number 6 1 999_999 true) (count_value x) → t ≡ fits sequence (count_value x)
 unfolding sequence
 sequence_fits x h = h
 
-pub given_judged : (r : Record) (q : Value) (a b c : List ℕ) {t : Bool} {j x : Judged} → t ≡ fits sequence q → j ≡ after_of Judged.Good (check t 9 1)
-    → x ≡ after_of j (judge_record r a b c) → x ≡ judged_of (judge_given chapter4 (kind_number r) q (meaning_of r a b c))
+pub given_is : (r : Record) (q : Value) (a b c : List ℕ) {t : Bool} {x : Result (Unit {0}) Flaw} → t ≡ fits sequence q
+    → x ≡ judged_of (check t 9 1 ⨾ judge_record r a b c) → x ≡ judged_of (judge_given chapter4 (kind_number r) q (meaning_of r a b c))
 unfolding judge_given judge_record
-given_judged r q a b c h d e = e ∙ rw (d, h) (after-after Judged.Good _ _ ∙ unfold after_of in refl)
+given_is r q a b c h e = e ∙ rw h

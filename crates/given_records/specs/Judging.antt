@@ -4,16 +4,10 @@ use Rattle.rules.specs.Fields.{Field, Verdict, anything, check, ◌⨾◌, Entry
 use Rattle.rules.specs.Layouts.{kept, heights, layouts}
 use Rattle.rules.specs.Records.{told, of_kind}
 use Rattle.rules.specs.Chapter4.{chapter4}
-use Rattle.kinds.specs.declared.Judged.{Judged}
 use Rattle.kinds.specs.declared.Record.{Record}
 use Rattle.kinds.specs.declared.Heights.{Heights}
 use Rattle.kinds.specs.declared.Record.TheVariants as R
-use Rattle.kinds.specs.Values.{judged_of, kind_number, values_of, meaning_of}
-
--- what was found so far, and then a verdict
-unfoldable pub after_of : Judged → Verdict → Judged
-after_of Judged.Good v = judged_of v
-after_of (Judged.Bad n c) v = Judged.Bad n c
+use Rattle.kinds.specs.Values.{kind_number, values_of, meaning_of}
 
 -- the fields of a kind, by its number
 unfoldable pub layout_of : ℕ → List Field

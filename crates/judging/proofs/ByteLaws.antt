@@ -9,14 +9,16 @@ use lib.ListN.{length, drop, take, get_or, drop_of_length-le}
 use lib.Seq.{drop-cons, take_all, length-take-le}
 use Rattle.std.specs.List.{position_from}
 use Rattle.std.proofs.Common.{Option, None, Some}
+use Rattle.std.specs.Prelude.{Ok, Err}
 use Rattle.rules.specs.Tests.{◌≤?◌, ◌=?◌, within}
 use Rattle.rules.specs.Characters.{is_printable}
 use Rattle.rules.specs.Fields.{fault, check, ◌⨾◌}
 use Rattle.rules.specs.Records.{bytes}
 use Rattle.rules.proofs.Truth.{of≡, of≢}
 use Rattle.columns.proofs.Loops.{&_is}
-use Rattle.kinds.specs.declared.Judged.{Judged}
+use Rattle.kinds.specs.declared.Flaw.{Flaw}
 use Rattle.kinds.specs.Values.{judged_of}
+use Rattle.kinds.proofs.ValueLaws.{flaw}
 
 -- as the code tests a byte
 pub outside : (b : ℕ) → not (leb 32 b && leb b 126) ≡ not (is_printable b)
@@ -61,9 +63,9 @@ module _ (f : List ℕ) {columns : List ℕ} (cut : columns ≡ take 80 f) {r : 
   found : r ≡ position_from bad 0 (take 80 f)
   found = first ∙ ap (position_from bad 0) cut
 
-  pub bad_byte : {i : ℕ} → r ≡ Some i → Judged.Bad 4 (i + 1) ≡ judged_of (bytes 80 1 f)
+  pub bad_byte : {i : ℕ} → r ≡ Some i → {w : Flaw} → w ≡ flaw 4 (i + 1) → Err w ≡ judged_of (bytes 80 1 f)
   unfolding judged_of
-  bad_byte {i} e = sym (ap judged_of (seen 80 0 i f (sym found ∙ e)))
+  bad_byte {i} e z = rw z (sym (ap judged_of (seen 80 0 i f (sym found ∙ e))))
 
   pub bad_within : {i : ℕ} → r ≡ Some i → i < 80
   bad_within {i} e = seen_within 80 0 i f (sym found ∙ e)
@@ -71,21 +73,21 @@ module _ (f : List ℕ) {columns : List ℕ} (cut : columns ≡ take 80 f) {r : 
   behind : r ≡ None → bytes 0 (length (take 80 f) + 0 + 1) (drop 80 f) ≡ bytes 80 1 f
   behind e = sym (unseen 80 0 f (sym found ∙ e))
 
-  pub no_feed : r ≡ None → length f ≤ 80 → Judged.Bad 3 (length f + 1) ≡ judged_of (bytes 80 1 f)
+  pub no_feed : r ≡ None → length f ≤ 80 → {w : Flaw} → w ≡ flaw 3 (length f + 1) → Err w ≡ judged_of (bytes 80 1 f)
   unfolding judged_of bytes
-  no_feed e k =
+  no_feed e k z =
       let all : take 80 f ≡ f = take_all 80 f k in
-      ap judged_of (ap (fault 3) (omega (arith, ap length all)) ∙ ap (bytes 0 (length (take 80 f) + 0 + 1)) (sym (drop_of_length-le f k)) ∙ behind e)
+      rw z (ap judged_of (ap (fault 3) (omega (arith, ap length all)) ∙ ap (bytes 0 (length (take 80 f) + 0 + 1)) (sym (drop_of_length-le f k)) ∙ behind e))
 
   -- column 81
   at_81 : r ≡ None → 80 < length f → bytes 80 1 f ≡ check (get_or f 80 0 =? 10) 5 81
   unfolding bytes
   at_81 e k = sym (behind e) ∙ rw (drop-cons f 80 0 k) (ap (λ m. check (get_or f 80 0 =? 10) 5 (m + 0 + 1)) (length-take-le 80 f (omega arith)))
 
-  pub other_byte : r ≡ None → 80 < length f → (get_or f 80 0 ≡ 10 → ⊥) → Judged.Bad 5 81 ≡ judged_of (bytes 80 1 f)
+  pub other_byte : r ≡ None → 80 < length f → (get_or f 80 0 ≡ 10 → ⊥) → {w : Flaw} → w ≡ flaw 5 81 → Err w ≡ judged_of (bytes 80 1 f)
   unfolding judged_of check
-  other_byte e k n = sym (rw (at_81 e k, of≢ n))
+  other_byte e k n z = rw z (sym (rw (at_81 e k, of≢ n)))
 
-  pub fine : r ≡ None → 80 < length f → get_or f 80 0 ≡ 10 → Judged.Good ≡ judged_of (bytes 80 1 f)
+  pub fine : r ≡ None → 80 < length f → get_or f 80 0 ≡ 10 → Ok tt ≡ judged_of (bytes 80 1 f)
   unfolding judged_of check
   fine e k y = sym (rw (at_81 e k, of≡ y))

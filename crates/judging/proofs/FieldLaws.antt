@@ -7,6 +7,7 @@ use native.Mathlib.Omega.{arith}
 use lib.Dec.{leb, eqb}
 use lib.ListN.{length, take, drop, length-drop}
 use lib.Seq.{length-take-le}
+use Rattle.std.specs.Prelude.{Ok, Err}
 use Rattle.rules.specs.Tests.{all, ◌&◌, ◌≤?◌, ◌=?◌}
 use Rattle.rules.specs.Characters.{is_blank}
 use Rattle.rules.specs.Items as rules
@@ -19,9 +20,10 @@ use Rattle.kinds.specs.declared.tables.Bond.{Bond}
 use Rattle.kinds.specs.declared.tables.Bond.TheVariants as B
 use Rattle.kinds.specs.declared.Expect as code
 use Rattle.kinds.specs.declared.Expect.TheVariants as X
-use Rattle.kinds.specs.declared.Judged.{Judged}
+use Rattle.kinds.specs.declared.Flaw.{Flaw}
 use Rattle.kinds.specs.Values.{judged_of, expect_of}
 use Rattle.kinds.specs.Tables.{item_of}
+use Rattle.kinds.proofs.ValueLaws.{flaw}
 use Rattle.judging.specs.Judging.{part, number_in, agrees_in, judge_field, refused, sized, spans}
 use Rattle.judging.proofs.SpotLaws.{spans-width, spans_80, spans_sized}
 
@@ -121,17 +123,17 @@ module _ (l : List ℕ) (c w : ℕ) (long : 80 ≤ length l) (p : 1 ≤ c) (q : 
     agreed_is : (a : Bool) → a ≡ agrees_in e l b cut → a ≡ agrees_in e l b (part c w l)
     agreed_is a h = h ∙ ap (agrees_in e l b) cut_is
 
-    pub row_good : (g : Bool) → g ≡ good (item_of i (length cut)) cut → g ≡ true → (a : Bool) → a ≡ agrees_in e l b cut → a ≡ true → Judged.Good ≡ judged_of (judge_field e l i b c w)
+    pub row_good : (g : Bool) → g ≡ good (item_of i (length cut)) cut → g ≡ true → (a : Bool) → a ≡ agrees_in e l b cut → a ≡ true → Ok tt ≡ judged_of (judge_field e l i b c w)
     unfolding judge_field check ◌⨾◌ judged_of
     row_good g h t a k u = rw (sym (formed_is g h) ∙ t, sym (agreed_is a k) ∙ u)
 
-    pub row_odd : (g : Bool) → g ≡ good (item_of i (length cut)) cut → g ≡ true → (a : Bool) → a ≡ agrees_in e l b cut → a ≡ false → Judged.Bad 10 c ≡ judged_of (judge_field e l i b c w)
+    pub row_odd : (g : Bool) → g ≡ good (item_of i (length cut)) cut → g ≡ true → (a : Bool) → a ≡ agrees_in e l b cut → a ≡ false → {x : Flaw} → x ≡ flaw 10 c → Err x ≡ judged_of (judge_field e l i b c w)
     unfolding judge_field check ◌⨾◌ judged_of
-    row_odd g h t a k u = rw (sym (formed_is g h) ∙ t, sym (agreed_is a k) ∙ u)
+    row_odd g h t a k u z = rw (z, sym (formed_is g h) ∙ t, sym (agreed_is a k) ∙ u)
 
-    pub row_bad : (g : Bool) → g ≡ good (item_of i (length cut)) cut → g ≡ false → Judged.Bad 9 c ≡ judged_of (judge_field e l i b c w)
+    pub row_bad : (g : Bool) → g ≡ good (item_of i (length cut)) cut → g ≡ false → {x : Flaw} → x ≡ flaw 9 c → Err x ≡ judged_of (judge_field e l i b c w)
     unfolding judge_field check ◌⨾◌ judged_of
-    row_bad g h t = rw (sym (formed_is g h) ∙ t)
+    row_bad g h t z = rw (z, sym (formed_is g h) ∙ t)
 
   module _ (i : Item) (h : spans (item_of i w) w ≡ true) where
     pub cut_spans : spans (item_of i (length cut)) (length cut) ≡ true

@@ -7,6 +7,7 @@ use native.Mathlib.Omega.{arith}
 use lib.Dec.{eqb}
 use lib.ListN.{length, take, get_or}
 use lib.Seq.{length-take-le}
+use Rattle.std.specs.Prelude.{Result, Ok, Err}
 use Rattle.rules.specs.Tests.{all, within, ◌&◌, ◌≤?◌, ◌=?◌}
 use Rattle.rules.specs.Characters.{is_printable}
 use Rattle.rules.specs.Items.{number, width, good, spot}
@@ -20,12 +21,11 @@ use Rattle.rules.proofs.Lawful.{spot-inside}
 use Rattle.rules.proofs.RecordLaws.{bytes-length}
 use Rattle.rules.proofs.Conforming.{bytes_of}
 use Rattle.columns.proofs.Loops.{&_is}
-use Rattle.kinds.specs.declared.Judged.{Judged}
+use Rattle.kinds.specs.declared.Flaw.{Flaw}
 use Rattle.kinds.specs.declared.Expect.TheVariants as X
 use Rattle.kinds.specs.Values.{judged_of, expect_of}
-use Rattle.kinds.proofs.ValueLaws.{good_is}
+use Rattle.kinds.proofs.ValueLaws.{flaw, good_is, bad_then}
 use Rattle.judging.specs.Judging.{clean, sized, spans}
-use Rattle.judging.proofs.RowLaws.{bad_then}
 
 module _ (l : List ℕ) where
   pub clean_short : length l ≤ 80 → false ≡ clean l
@@ -36,14 +36,14 @@ module _ (l : List ℕ) where
   unfolding clean is_printable ◌=?◌
   clean_long h p e = sym (&_is p (eqb (get_or l 80 0) 10)) ∙ rw (of≤ {m = 81} {n = length l} h, e) (sym (true_and _))
 
-  pub clean-good : (t : Bool) → t ≡ clean l → t ≡ true → Judged.Good ≡ judged_of (bytes 80 1 l)
+  pub clean-good : (t : Bool) → t ≡ clean l → t ≡ true → Ok tt ≡ judged_of (bytes 80 1 l)
   unfolding clean
   clean-good t e h =
       let c = both (sym e ∙ h) in
       let fine : is_ok (bytes 80 1 l) ≡ true = bytes_of 80 1 l (to≤ c.0) (both c.1).0 (to≡ (both c.1).1) in
       sym (ok_good (bytes 80 1 l) fine)
     where
-      ok_good : (v : Verdict) → is_ok v ≡ true → judged_of v ≡ Judged.Good
+      ok_good : (v : Verdict) → is_ok v ≡ true → judged_of v ≡ Ok tt
       ok_good ok h = unfold judged_of in refl
       ok_good (fault n c) h = absurd (false≢true (unfold is_ok in h))
 
@@ -69,27 +69,27 @@ module _ (l : List ℕ) where
   spot_few o e = rw e (unfold width in spot-inside sequence (take 6 l) (omega arith))
 
   module _ (k : ℕ) (e : Expect) where
-    pub rest_bad : (t : Bool) → t ≡ good sequence (take 6 l) → t ≡ false → (o : ℕ) → o ≡ spot sequence (take 6 l) → Judged.Bad 9 (1 + o) ≡ judged_of (numbered chapter4 l ⨾ judge e (map (read l) (get_or layouts k kept)))
+    pub rest_bad : (t : Bool) → t ≡ good sequence (take 6 l) → t ≡ false → (o : ℕ) → o ≡ spot sequence (take 6 l) → {w : Flaw} → w ≡ flaw 9 (1 + o) → Err w ≡ judged_of (numbered chapter4 l ⨾ judge e (map (read l) (get_or layouts k kept)))
     unfolding numbered check ◌⨾◌ judged_of
-    rest_bad t z h o q = rw (sym z ∙ h, q)
+    rest_bad t z h o q y = rw (y, sym z ∙ h, q)
 
-    pub rest_good : (t : Bool) → t ≡ good sequence (take 6 l) → t ≡ true → {j : Judged} → j ≡ judged_of (judge e (map (read l) (get_or layouts k kept))) → j ≡ judged_of (numbered chapter4 l ⨾ judge e (map (read l) (get_or layouts k kept)))
+    pub rest_good : (t : Bool) → t ≡ good sequence (take 6 l) → t ≡ true → {j : Result (Unit {0}) Flaw} → j ≡ judged_of (judge e (map (read l) (get_or layouts k kept))) → j ≡ judged_of (numbered chapter4 l ⨾ judge e (map (read l) (get_or layouts k kept)))
     unfolding numbered check ◌⨾◌
     rest_good t z h {j} q = q ∙ sym (rw (sym z ∙ h))
 
   -- ---- by itself
-  pub alone_bytes : (j : Judged) → j ≡ judged_of (bytes 80 1 l) → (n c : ℕ) → j ≡ Judged.Bad n c → Judged.Bad n c ≡ judged_of (read_line chapter4 l)
+  pub alone_bytes : (j : Result (Unit {0}) Flaw) → j ≡ judged_of (bytes 80 1 l) → (w : Flaw) → j ≡ Err w → Err w ≡ judged_of (read_line chapter4 l)
   unfolding read_line
-  alone_bytes j p n c q = sym (bad_then (bytes 80 1 l) _ n c (sym p ∙ q))
+  alone_bytes j p w q = sym (bad_then (bytes 80 1 l) _ w (sym p ∙ q))
 
-  pub alone_long : (j : Judged) → j ≡ judged_of (bytes 80 1 l) → j ≡ Judged.Good → 80 < length l
+  pub alone_long : (j : Result (Unit {0}) Flaw) → j ≡ judged_of (bytes 80 1 l) → j ≡ Ok tt → 80 < length l
   alone_long j p q = bytes-length 1 80 l (ap is_ok (good_is (bytes 80 1 l) (sym p ∙ q)) ∙ (unfold is_ok in refl))
 
-  module _ (j : Judged) (p : j ≡ judged_of (bytes 80 1 l)) (q : j ≡ Judged.Good) (k : ℕ) (z : k ≡ kind_of (code_at l)) where
-    pub alone_code : 13 < k → Judged.Bad 6 7 ≡ judged_of (read_line chapter4 l)
+  module _ (j : Result (Unit {0}) Flaw) (p : j ≡ judged_of (bytes 80 1 l)) (q : j ≡ Ok tt) (k : ℕ) (z : k ≡ kind_of (code_at l)) where
+    pub alone_code : 13 < k → {w : Flaw} → w ≡ flaw 6 7 → Err w ≡ judged_of (read_line chapter4 l)
     unfolding read_line known check ◌⨾◌ judged_of
-    alone_code h = rw (good_is (bytes 80 1 l) (sym p ∙ q), ← z, of> h)
+    alone_code h y = rw (y, good_is (bytes 80 1 l) (sym p ∙ q), ← z, of> h)
 
-    pub alone_fields : k ≤ 13 → {r : Judged} → r ≡ judged_of (numbered chapter4 l ⨾ judge (expect_of X.Anything) (map (read l) (get_or layouts k kept))) → r ≡ judged_of (read_line chapter4 l)
+    pub alone_fields : k ≤ 13 → {r : Result (Unit {0}) Flaw} → r ≡ judged_of (numbered chapter4 l ⨾ judge (expect_of X.Anything) (map (read l) (get_or layouts k kept))) → r ≡ judged_of (read_line chapter4 l)
     unfolding read_line known entries layout check ◌⨾◌ expect_of
     alone_fields h e = e ∙ sym (rw (good_is (bytes 80 1 l) (sym p ∙ q), ← z, of≤ h))

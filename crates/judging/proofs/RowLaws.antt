@@ -7,6 +7,7 @@ use native.Mathlib.Omega.{arith}
 use lib.Dec.{lit≤}
 use lib.Seq.{slice, slice_empty}
 use lib.ListN.{length, take, drop, get_or}
+use Rattle.std.specs.Prelude.{Result, Ok, Err}
 use Rattle.rules.specs.Tests.{all, ◌&◌, ◌≤?◌, ◌=?◌}
 use Rattle.rules.specs.Characters.{is_blank, letter, digit, space, only, ◌or◌}
 use Rattle.rules.specs.Digits.{val}
@@ -23,31 +24,22 @@ use Rattle.columns.proofs.ValueLaws.{blank-val}
 use Rattle.kinds.specs.declared.tables.Bond.{Bond}
 use Rattle.kinds.specs.declared.tables.Bond.TheVariants as B
 use Rattle.kinds.specs.Tables.{item_of, Row, row_lists, rows, starts, items, bonds, firsts, widths}
-use Rattle.kinds.specs.declared.Judged.{Judged}
+use Rattle.kinds.specs.declared.Flaw.{Flaw}
 use Rattle.kinds.specs.Values.{judged_of}
 use Rattle.kinds.proofs.TableLaws.{each_kind, begins, item_is, bond_is, first_is, width_is, row_passes, rows_from}
-use Rattle.kinds.proofs.ValueLaws.{good_is, bad_is}
+use Rattle.kinds.proofs.ValueLaws.{flaw, good_is, bad_is}
 use Rattle.judging.specs.Judging.{part, number_in, agrees_in, judge_row, judge_rows, judge_field, judge_field_at, refused, refused_at, pointed, sized, spans}
 
 -- ---- verdicts one after the other
 then_on : (u v : Verdict) {w x : Verdict} → w ≡ x → (u ⨾ v) ⨾ w ≡ u ⨾ (v ⨾ x)
 then_on u v {w} e = ⨾_assoc u v w ∙ ap (λ y. u ⨾ (v ⨾ y)) e
 
--- the answers of the code
-pub bad_then : (u v : Verdict) (n c : ℕ) → judged_of u ≡ Judged.Bad n c → judged_of (u ⨾ v) ≡ Judged.Bad n c
-unfolding ◌⨾◌
-bad_then u v n c e = rw (bad_is u n c e) (unfold judged_of in refl)
-
 -- naming a 9 elsewhere leaves the fault the first
 pointed_then : (p n c : ℕ) (v : Verdict) → pointed p (fault n c) ⨾ v ≡ pointed p (fault n c)
 unfolding pointed ◌⨾◌
 pointed_then p n c v = cases (n =? 9) (λ e. rw e) (λ e. rw e)
 
-pub good_then : (u v : Verdict) → judged_of u ≡ Judged.Good → u ⨾ v ≡ v
-unfolding ◌⨾◌
-good_then u v e = rw (good_is u e)
-
-pub ok_good : (u : Verdict) → is_ok u ≡ true → Judged.Good ≡ judged_of u
+pub ok_good : (u : Verdict) → is_ok u ≡ true → Ok tt ≡ judged_of u
 unfolding judged_of is_ok
 ok_good ok h = refl
 ok_good (fault n c) h = absurd (false≢true h)
@@ -153,7 +145,7 @@ at_requires i h long f p c q v p' w q' it t =
     (long, rw (q, p) r.first, rw (q, p, q', p') r.last, rw (t, q', p') r.spanned)
 
 pub at_is : (e : Expect) (l : List ℕ) (i : ℕ) → (f : ℕ) → f ≡ get_or firsts i 0 → (c : ℕ) → c ≡ f → (v : ℕ) → v ≡ get_or widths i 0 → (w : ℕ) → w ≡ v → (it : Item) → it ≡ get_or items i I.Blank
-    → (b : Bond) → b ≡ get_or bonds i B.Free → {r : Judged} → r ≡ judged_of (judge_field e l it b c w) → r ≡ judged_of (judge_field_at e l i)
+    → (b : Bond) → b ≡ get_or bonds i B.Free → {r : Result (Unit {0}) Flaw} → r ≡ judged_of (judge_field e l it b c w) → r ≡ judged_of (judge_field_at e l i)
 unfolding judge_field_at
 at_is e l i f p c q v p' w q' it t b u z = z ∙ rw (t, u, q, p, q', p')
 
@@ -162,13 +154,13 @@ pub refused_row : (l : List ℕ) (i : ℕ) → (f : ℕ) → f ≡ get_or firsts
 unfolding refused_at
 refused_row l i f p c q v p' w q' it t z = z ∙ rw (t, q, p, q', p')
 
-pub pointed_is : (l : List ℕ) (i n c : ℕ) → n ≡ 9 → (p : ℕ) → p ≡ refused_at l i → Judged.Bad 9 p ≡ judged_of (pointed (refused_at l i) (fault n c))
+pub pointed_is : (l : List ℕ) (i n c : ℕ) → n ≡ 9 → (p : ℕ) → p ≡ refused_at l i → {w : Flaw} → w ≡ flaw 9 p → Err w ≡ judged_of (pointed (refused_at l i) (fault n c))
 unfolding pointed judged_of
-pointed_is l i n c e p z = rw (of≡ e, z)
+pointed_is l i n c e p z y = rw (y, of≡ e, z)
 
-pub pointed-not : (l : List ℕ) (i n c : ℕ) → (n ≡ 9 → ⊥) → Judged.Bad n c ≡ judged_of (pointed (refused_at l i) (fault n c))
+pub pointed-not : (l : List ℕ) (i : ℕ) (w : Flaw) → (w.number ≡ 9 → ⊥) → Err w ≡ judged_of (pointed (refused_at l i) (fault w.number w.column))
 unfolding pointed judged_of
-pointed-not l i n c e = rw (of≢ e)
+pointed-not l i w e = rw (of≢ e)
 
 -- a row's 9 may be named at once or afterwards
 named-after : (g a : Bool) (c p : ℕ) → check g 9 p ⨾ check a 10 c ≡ pointed p (check g 9 c ⨾ check a 10 c)
@@ -202,18 +194,18 @@ module _ {e : Expect} {l : List ℕ} {kind end i : ℕ} (v : Walked e l kind end
       ap (judge_rows e l) (rows_from i end h v.high)
       ∙ rw (item_is i, bond_is i, first_is i, width_is i) (ap (λ u. u ⨾ judge_rows e l (slice (i + 1) end rows)) (row_pointed e l _ _ _ _))
 
-  pub walk_stop : (j : Judged) → j ≡ judged_of (judge_field_at e l i) → (n c : ℕ) → j ≡ Judged.Bad n c → {r : Judged} → r ≡ judged_of (pointed (refused_at l i) (fault n c)) → r ≡ judged_of (judge e (map (read l) (get_or layouts kind kept)))
-  walk_stop j p n c q z =
-      let bad : judge_field_at e l i ≡ fault n c = bad_is (judge_field_at e l i) n c (sym p ∙ q) in
-      z ∙ ap judged_of (sym (sym v.same ∙ step ∙ ap (λ u. pointed (refused_at l i) u ⨾ judge_rows e l (slice (i + 1) end rows)) bad ∙ pointed_then (refused_at l i) n c _))
+  pub walk_stop : (j : Result (Unit {0}) Flaw) → j ≡ judged_of (judge_field_at e l i) → (w : Flaw) → j ≡ Err w → {r : Result (Unit {0}) Flaw} → r ≡ judged_of (pointed (refused_at l i) (fault w.number w.column)) → r ≡ judged_of (judge e (map (read l) (get_or layouts kind kept)))
+  walk_stop j p w q z =
+      let bad : judge_field_at e l i ≡ fault w.number w.column = bad_is (judge_field_at e l i) w (sym p ∙ q) in
+      z ∙ ap judged_of (sym (sym v.same ∙ step ∙ ap (λ u. pointed (refused_at l i) u ⨾ judge_rows e l (slice (i + 1) end rows)) bad ∙ pointed_then (refused_at l i) w.number w.column _))
 
-  pub walk_on : (j : Judged) → j ≡ judged_of (judge_field_at e l i) → j ≡ Judged.Good → Walked e l kind end (i + 1)
+  pub walk_on : (j : Result (Unit {0}) Flaw) → j ≡ judged_of (judge_field_at e l i) → j ≡ Ok tt → Walked e l kind end (i + 1)
   unfolding pointed ◌⨾◌
   walk_on j p q =
       let on : judge_rows e l (slice i end rows) ≡ judge_rows e l (slice (i + 1) end rows) = step ∙ ap (λ u. pointed (refused_at l i) u ⨾ judge_rows e l (slice (i + 1) end rows)) (good_is (judge_field_at e l i) (sym p ∙ q)) in
       record { low = omega arith; high = v.high; same = sym on ∙ v.same }
 
-pub walk_done : {e : Expect} {l : List ℕ} {kind end i : ℕ} → Walked e l kind end i → end ≤ i → Judged.Good ≡ judged_of (judge e (map (read l) (get_or layouts kind kept)))
+pub walk_done : {e : Expect} {l : List ℕ} {kind end i : ℕ} → Walked e l kind end i → end ≤ i → Ok tt ≡ judged_of (judge e (map (read l) (get_or layouts kind kept)))
 unfolding judge_rows judged_of
 walk_done {e} {l} {kind} {end} {i} v h =
     let z : i ≡ end = omega (arith, v.low) in

@@ -6,7 +6,7 @@ ghost use Rattle.rules.specs.Records.{bytes};
 ghost use Rattle.kinds.specs.Values.{judged_of};
 
 use columns::parts::middle;
-use kinds::Judged;
+use kinds::Flaw;
 
 fn first_unprintable(columns: &[u8]) -> Option<usize>
     ensures { result ≡ position_from (λ b. not (is_printable b)) 0 columns.now }
@@ -15,15 +15,15 @@ fn first_unprintable(columns: &[u8]) -> Option<usize>
 }
 
 // The lowest column at fault.
-pub fn find_bad(line: &[u8]) -> Judged
+pub fn find_bad(line: &[u8]) -> Result<(), Flaw>
     ensures { result ≡ judged_of (bytes 80 1 line.now) }
 {
     if let Some(i) = first_unprintable(middle(line, 0, 80)) {
-        return Judged::Bad(4, i + 1);
+        return Err(Flaw::new(4, i + 1));
     }
     match line.get(80) {
-        None => Judged::Bad(3, line.len() + 1),
-        Some(10) => Judged::Good,
-        Some(_) => Judged::Bad(5, 81),
+        None => Err(Flaw::new(3, line.len() + 1)),
+        Some(10) => Ok(()),
+        Some(_) => Err(Flaw::new(5, 81)),
     }
 }

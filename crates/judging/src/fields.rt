@@ -1,5 +1,5 @@
 // The fields of a line from the left, each of its kind and range (9) and in agreement with earlier ones (10).
-ghost use Rattle.std.specs.Prelude.{◌≡◌, true, map, ◌+◌, ◌≤◌, ◌<◌, length, get_or};
+ghost use Rattle.std.specs.Prelude.{◌≡◌, true, map, ◌+◌, ◌≤◌, ◌<◌, length, get_or, Err};
 ghost use Rattle.rules.specs.Items.{good, spot};
 ghost use Rattle.rules.specs.Fields.{fault, read, judge, meets};
 ghost use Rattle.rules.specs.Layouts.{layouts, kept};
@@ -16,7 +16,7 @@ use columns::parts::middle;
 use columns::sets::{all_blank, good_blank, good_constant, good_word, good_word_or_blank};
 use columns::{Set, Way};
 use kinds::tables::{Bond, Item, bond_at, first_at, item_at, start_at, width_at};
-use kinds::{Expect, Judged};
+use kinds::{Expect, Flaw};
 
 // Of its kind and range.
 fn good_item(item: Item, part: &[u8]) -> bool
@@ -129,7 +129,14 @@ fn agrees_item(e: Expect, line: &[u8], bond: Bond, part: &[u8]) -> bool
 }
 
 // One field: 9 before 10, named at its first column.
-fn judge_row(e: Expect, line: &[u8], item: Item, bond: Bond, first: usize, width: usize) -> Judged
+fn judge_row(
+    e: Expect,
+    line: &[u8],
+    item: Item,
+    bond: Bond,
+    first: usize,
+    width: usize,
+) -> Result<(), Flaw>
     requires { (80 ≤ length line.now) × (1 ≤ first) × (first + width ≤ 81) × (spans (item_of item width) width ≡ true) }
     ensures { result ≡ judged_of (judge_field (expect_of e) line.now item bond first width) }
 {
@@ -138,14 +145,14 @@ fn judge_row(e: Expect, line: &[u8], item: Item, bond: Bond, first: usize, width
     let part = &line[at..end];
     if good_item(item, part) {
         if agrees_item(e, line, bond, part) {
-            return Judged::Good;
+            return Ok(());
         }
-        return Judged::Bad(10, first);
+        return Err(Flaw::new(10, first));
     }
-    Judged::Bad(9, first)
+    Err(Flaw::new(9, first))
 }
 
-fn judge_at(e: Expect, line: &[u8], i: usize) -> Judged
+fn judge_at(e: Expect, line: &[u8], i: usize) -> Result<(), Flaw>
     requires { (80 ≤ length line.now) × (i < 87) }
     ensures { result ≡ judged_of (judge_field_at (expect_of e) line.now i) }
 {
@@ -174,26 +181,25 @@ fn refused_at(line: &[u8], i: usize) -> usize
 }
 
 // The fault of row i, a 9 named at its character. It is asked for once, behind the loop's good path.
-fn point_at(line: &[u8], i: usize, n: u32, c: usize) -> Judged
+fn point_at(line: &[u8], i: usize, flaw: Flaw) -> Flaw
     requires { (80 ≤ length line.now) × (i < 87) }
-    ensures { result ≡ judged_of (pointed (refused_at line.now i) (fault n c)) }
+    ensures { Err result ≡ judged_of (pointed (refused_at line.now i) (fault flaw.number flaw.column)) }
 {
-    if n == 9 {
-        return Judged::Bad(9, refused_at(line, i));
+    if flaw.number == 9 {
+        return Flaw::new(9, refused_at(line, i));
     }
-    Judged::Bad(n, c)
+    flaw
 }
 
 // The fields from column 11 on of a line of a kind, row by row of the tables: the first fault.
-pub(crate) fn judge_fields(line: &[u8], kind: usize, e: Expect) -> Judged
+pub(crate) fn judge_fields(line: &[u8], kind: usize, e: Expect) -> Result<(), Flaw>
     requires { (80 ≤ length line.now) × (kind < 14) }
     ensures { result ≡ judged_of (judge (expect_of e) (map (read line.now) (get_or layouts kind kept))) }
 {
     for i in usize::from(start_at(kind))..usize::from(start_at(kind + 1)) {
-        let j = judge_at(e, line, i);
-        if let Judged::Bad(n, c) = j {
-            return point_at(line, i, n, c);
+        if let Err(flaw) = judge_at(e, line, i) {
+            return Err(point_at(line, i, flaw));
         }
     }
-    Judged::Good
+    Ok(())
 }

@@ -14,7 +14,7 @@ use crate::fields::judge_fields;
 use crate::spots::{FieldKind, first_bad};
 use columns::numbers::good_number;
 use columns::sets::all_within;
-use kinds::{Expect, Judged, Record};
+use kinds::{Expect, Flaw, Record};
 
 // Nothing is wrong with the bytes: one test of all columns at once, since hardly a line fails it.
 fn is_clean(line: &[u8]) -> bool
@@ -27,11 +27,11 @@ fn is_clean(line: &[u8]) -> bool
 }
 
 // Faults 3, 4 and 5, the lowest column first.
-pub fn judge_bytes(line: &[u8]) -> Judged
+pub fn judge_bytes(line: &[u8]) -> Result<(), Flaw>
     ensures { result ≡ judged_of (bytes 80 1 line.now) }
 {
     if is_clean(line) {
-        return Judged::Good;
+        return Ok(());
     }
     find_bad(line)
 }
@@ -57,27 +57,24 @@ fn spot_number(line: &[u8]) -> usize
 }
 
 // Columns 1-6, then the fields of the kind.
-pub fn judge_rest(line: &[u8], kind: usize, e: Expect) -> Judged
+pub fn judge_rest(line: &[u8], kind: usize, e: Expect) -> Result<(), Flaw>
     requires { (80 ≤ length line.now) × (kind < 14) }
     ensures { result ≡ judged_of (numbered chapter4 line.now ⨾ judge (expect_of e) (map (read line.now) (get_or layouts kind kept))) }
 {
     if has_number(line) {
         return judge_fields(line, kind, e);
     }
-    Judged::Bad(9, Record::NUMBER + spot_number(line))
+    Err(Flaw::new(9, Record::NUMBER + spot_number(line)))
 }
 
 // A record by itself, as read judges it.
-pub fn judge_alone(line: &[u8]) -> Judged
+pub fn judge_alone(line: &[u8]) -> Result<(), Flaw>
     ensures { result ≡ judged_of (read_line chapter4 line.now) }
 {
-    let j = judge_bytes(line);
-    if let Judged::Bad(n, c) = j {
-        return Judged::Bad(n, c);
-    }
+    judge_bytes(line)?;
     let kind = kind_at(line);
     if 13 < kind {
-        return Judged::Bad(6, Record::CODE);
+        return Err(Flaw::new(6, Record::CODE));
     }
     judge_rest(line, kind, Expect::Anything)
 }

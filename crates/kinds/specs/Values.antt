@@ -1,11 +1,12 @@
 -- The code's types as 01's numbers and values: for each case of each enum the definition that the promises use.
-use Rattle.std.specs.Prelude.{List, [], ◌∷◌, ℕ, get_or, pos, negsuc, Option, Some, None}
+use Rattle.std.specs.Prelude.{List, [], ◌∷◌, ℕ, get_or, pos, negsuc, Result, Ok, Err, Option, Some, None}
 use Rattle.rules.specs.Characters.{ascii}
 use Rattle.rules.specs.Items.{Value, gap, missing, num, text, label}
 use Rattle.rules.specs.Fields.{Verdict, ok, fault}
 use Rattle.rules.specs.Fields as fields
 use Rattle.rules.specs.Records.{Meaning}
-use Rattle.rules.specs.Files.{Result, accept, refuse}
+use Rattle.rules.specs.Files.{accept, refuse}
+use Rattle.rules.specs.Files as files
 use Rattle.rules.specs.Kinds.{kind_of}
 use Rattle.rules.specs.Calls as calls
 use Rattle.columns.specs.Types.{count_of, nat_of, int_of, height_of, height_value, media_of, media_value, four, four_of}
@@ -15,9 +16,7 @@ use Rattle.kinds.specs.declared.Record.{Record}
 use Rattle.kinds.specs.declared.Record.TheVariants as R
 use Rattle.kinds.specs.declared.Fault.{Fault}
 use Rattle.kinds.specs.declared.Checked.{Checked}
-use Rattle.kinds.specs.declared.Reading.{Reading}
-use Rattle.kinds.specs.declared.Written.{Written}
-use Rattle.kinds.specs.declared.Judged.{Judged}
+use Rattle.kinds.specs.declared.Flaw.{Flaw}
 use Rattle.kinds.specs.declared.Expect.{Expect}
 
 -- ---- short codes
@@ -153,22 +152,22 @@ unfoldable pub checked_of : calls.Answer → Checked
 checked_of a = record { fault = record { number = a.number; «record» = a.place; column = a.column }; counts = a.counts }
 
 -- a verdict on a file without counts; the number 0 is acceptance
-unfoldable pub fault_of : Result → Fault
+unfoldable pub fault_of : files.Result → Fault
 fault_of accept = record { number = 0; «record» = 0; column = 0 }
 fault_of (refuse n r c) = record { number = n; «record» = r; column = c }
 
-unfoldable pub reading_of : calls.Reading → Reading
-reading_of (calls.values q m) = Reading.Values (count_of q) (record_of m)
-reading_of (calls.unread n r c) = Reading.Refused record { number = n; «record» = r; column = c }
+unfoldable pub reading_of : calls.Reading → Result (Option ℕ × Record) Fault
+reading_of (calls.values q m) = Ok (count_of q, record_of m)
+reading_of (calls.unread n r c) = Err record { number = n; «record» = r; column = c }
 
 -- write refuses with record 0
-unfoldable pub written_of : Verdict → Written
-written_of ok = Written.Done
-written_of (fault n c) = Written.Refused record { number = n; «record» = 0; column = c }
+unfoldable pub written_of : Verdict → Result (Unit {0}) Fault
+written_of ok = Ok tt
+written_of (fault n c) = Err record { number = n; «record» = 0; column = c }
 
-unfoldable pub judged_of : Verdict → Judged
-judged_of ok = Judged.Good
-judged_of (fault n c) = Judged.Bad n c
+unfoldable pub judged_of : Verdict → Result (Unit {0}) Flaw
+judged_of ok = Ok tt
+judged_of (fault n c) = Err record { number = n; column = c }
 
 unfoldable pub expect_of : Expect → fields.Expect
 expect_of Expect.Anything = fields.anything

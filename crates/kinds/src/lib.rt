@@ -737,11 +737,23 @@ impl Record {
 }
 
 // A refusal: 01's number, record and column. The number 0 is acceptance.
-#[derive(Clone, Copy)]
+#[derive(Clone, Copy, PartialEq, Eq, Debug)]
 pub struct Fault {
     pub number: u32,
     pub record: usize,
     pub column: usize,
+}
+
+impl Fault {
+    pub fn new(number: u32, r: usize, column: usize) -> Fault
+        ensures { result ≡ record { number = number; «record» = r; column = column } }
+    {
+        Fault {
+            number,
+            record: r,
+            column,
+        }
+    }
 }
 
 // What form and rewrite answer: a fault, number 0 for acceptance, and a count of each kind of record, all 0 after a refusal.
@@ -751,25 +763,26 @@ pub struct Checked {
     pub counts: [u32; 14],
 }
 
-// What read answers.
-#[derive(Clone, Copy)]
-pub enum Reading {
-    Values(Option<u32>, Record),
-    Refused(Fault),
+// What is wrong with a line or with some of its fields: the number and column of the first fault.
+#[derive(Clone, Copy, PartialEq, Eq, Debug)]
+pub struct Flaw {
+    pub number: u32,
+    pub column: usize,
 }
 
-// What write answers.
-#[derive(Clone, Copy)]
-pub enum Written {
-    Done,
-    Refused(Fault),
-}
+impl Flaw {
+    pub fn new(number: u32, column: usize) -> Flaw
+        ensures { result ≡ record { number = number; column = column } }
+    {
+        Flaw { number, column }
+    }
 
-// What is found of a line or of some of its fields: the number and column of the first fault.
-#[derive(Clone, Copy)]
-pub enum Judged {
-    Good,
-    Bad(u32, usize),
+    // The refusal of record r for it.
+    pub fn in_record(self, r: usize) -> Fault
+        ensures { result ≡ record { number = self.number; «record» = r; column = self.column } }
+    {
+        Fault::new(self.number, r, self.column)
+    }
 }
 
 // What the records before ask of column 11.

@@ -1,11 +1,12 @@
 -- The calls: one law for each way through them, and what their promises say by themselves.
 use mathlib.Core.Path.{◌≡◌, refl, sym, ◌∙◌, ap}
-use mathlib.Core.Bool.{Bool, true, false, ◌&&◌}
+use mathlib.Core.Bool.{Bool, true, false, not, ◌&&◌, not-not}
 use mathlib.Core.List.{List, []}
 use Prim.Native.Nat.{ℕ, ◌+◌, ◌-◌, ◌*◌, ◌≤◌, ◌<◌}
 use native.Mathlib.Omega.{arith}
 use lib.Dec.{leb}
 use lib.ListN.{length, take, drop, get_or}
+use Rattle.std.specs.Prelude.{Result, Ok, Err, is_err}
 use Rattle.rules.specs.Tests.{◌&◌, ◌≤?◌, ◌=?◌, within}
 use Rattle.rules.specs.Items.{value_of}
 use Rattle.rules.specs.Fields.{Verdict, ok, fault, is_ok}
@@ -20,8 +21,8 @@ use Rattle.rules.proofs.RecordLaws.{read_line_splits, line_long}
 use Rattle.rules.proofs.Chapter4Laws.{layout-covers}
 use Rattle.rules.proofs.FileLaws.{reaches}
 use Rattle.kinds.specs.declared.Record.{Record}
-use Rattle.kinds.specs.declared.Reading.{Reading}
-use Rattle.kinds.specs.declared.Judged.{Judged}
+use Rattle.kinds.specs.declared.Flaw.{Flaw}
+use Rattle.kinds.specs.declared.Fault.{Fault}
 use Rattle.kinds.specs.Values.{judged_of, record_of, reading_of}
 use Rattle.kinds.proofs.ValueLaws.{good_is, bad_is}
 use Rattle.columns.proofs.Loops.{&_is}
@@ -47,29 +48,29 @@ module _ (l : List ℕ) (h : is_ok (read_line chapter4 l) ≡ true) where
   reads_long : 80 < length l
   reads_long = line_long chapter4 l formed
 
-good_ok : (v : Verdict) → judged_of v ≡ Judged.Good → is_ok v ≡ true
+good_ok : (v : Verdict) → judged_of v ≡ Ok tt → is_ok v ≡ true
 good_ok v e = ap is_ok (good_is v e) ∙ (unfold is_ok in refl)
 
-pub kind_small : (l : List ℕ) (j : Judged) → j ≡ judged_of (read_line chapter4 l) → j ≡ Judged.Good → (k : ℕ) → k ≡ kind_of (code_at l) → k < 14
+pub kind_small : (l : List ℕ) (j : Result (Unit {0}) Flaw) → j ≡ judged_of (read_line chapter4 l) → j ≡ Ok tt → (k : ℕ) → k ≡ kind_of (code_at l) → k < 14
 kind_small l j p q k z = omega (arith, reads_kind l (good_ok (read_line chapter4 l) (sym p ∙ q)))
 
 -- ---- read
-module _ (l : List ℕ) (n : ℕ) (j : Judged) (p : j ≡ judged_of (read_line chapter4 l)) where
-  pub line_refused : (m c : ℕ) → j ≡ Judged.Bad m c → Reading.Refused record { number = m; «record» = n; column = c } ≡ reading_of (read_as n l (read_line chapter4 l))
+module _ (l : List ℕ) (n : ℕ) (j : Result (Unit {0}) Flaw) (p : j ≡ judged_of (read_line chapter4 l)) where
+  pub line_refused : (w : Flaw) → j ≡ Err w → {x : Fault} → x ≡ record { number = w.number; «record» = n; column = w.column } → Err x ≡ reading_of (read_as n l (read_line chapter4 l))
   unfolding read_as reading_of
-  line_refused m c q = rw (bad_is (read_line chapter4 l) m c (sym p ∙ q))
+  line_refused w q z = rw (z, bad_is (read_line chapter4 l) w (sym p ∙ q))
 
-  pub line_values : j ≡ Judged.Good → (k : ℕ) → k ≡ kind_of (code_at l) → (s : Option ℕ) → s ≡ count_of (value_of sequence (take 6 l)) → (r : Record) → r ≡ record_in k l
-      → Reading.Values s r ≡ reading_of (read_as n l (read_line chapter4 l))
+  pub line_values : j ≡ Ok tt → (k : ℕ) → k ≡ kind_of (code_at l) → (s : Option ℕ) → s ≡ count_of (value_of sequence (take 6 l)) → (r : Record) → r ≡ record_in k l
+      → Ok (s, r) ≡ reading_of (read_as n l (read_line chapter4 l))
   unfolding read_as reading_of record_of record_in meaning layout
   line_values q k z s x r y = rw (good_is (read_line chapter4 l) (sym p ∙ q), x, y, z)
 
 module _ (f : List ℕ) (n : ℕ) (t : Bool) (e : t ≡ within 1 99_999 n & n ≤? begun f) where
-  pub read_none : t ≡ false → Reading.Refused record { number = 13; «record» = n; column = 0 } ≡ reading_of (read_of f n)
+  pub read_none : t ≡ false → {x : Fault} → x ≡ record { number = 13; «record» = n; column = 0 } → Err x ≡ reading_of (read_of f n)
   unfolding read_of reading_of
-  read_none h = rw (sym e ∙ h)
+  read_none h z = rw (z, sym e ∙ h)
 
-  pub read_there : t ≡ true → (l : List ℕ) → l ≡ line_at f (n - 1) → {r : Reading} → r ≡ reading_of (read_as n l (read_line chapter4 l)) → r ≡ reading_of (read_of f n)
+  pub read_there : t ≡ true → (l : List ℕ) → l ≡ line_at f (n - 1) → {r : Result (Option ℕ × Record) Fault} → r ≡ reading_of (read_as n l (read_line chapter4 l)) → r ≡ reading_of (read_of f n)
   unfolding read_of
   read_there h l z x = x ∙ sym (rw (sym e ∙ h, z))
 
@@ -82,17 +83,25 @@ unfolding is_read read_as is_ok
 read_ok n l ok = refl
 read_ok n l (fault m c) = refl
 
-bad_no : (v : Verdict) (m c : ℕ) → judged_of v ≡ Judged.Bad m c → is_ok v ≡ false
-bad_no v m c e = ap is_ok (bad_is v m c e) ∙ (unfold is_ok in refl)
+err_is : (v : Verdict) → is_err (judged_of v) ≡ not (is_ok v)
+unfolding judged_of is_ok
+err_is ok = refl
+err_is (fault m c) = refl
 
-module _ (l : List ℕ) (c : ℕ) (j : Judged) (p : j ≡ judged_of (read_line chapter4 l)) where
-  pub width_none : (m d : ℕ) → j ≡ Judged.Bad m d → 0 ≡ width_in l c
+module _ (l : List ℕ) (c : ℕ) (j : Result (Unit {0}) Flaw) (p : j ≡ judged_of (read_line chapter4 l)) where
+  bad : (t : Bool) → t ≡ is_err j → not t ≡ is_ok (read_line chapter4 l)
+  bad t e = ap not (e ∙ ap is_err p ∙ err_is (read_line chapter4 l)) ∙ not-not (is_ok (read_line chapter4 l))
+
+  pub width_none : (t : Bool) → t ≡ is_err j → t ≡ true → 0 ≡ width_in l c
   unfolding width_in
-  width_none m d q = rw (bad_no (read_line chapter4 l) m d (sym p ∙ q))
+  width_none t e h = rw (sym (bad t e) ∙ ap not h)
 
-  pub width_some : j ≡ Judged.Good → (k : ℕ) → k ≡ kind_of (code_at l) → (w : ℕ) → w ≡ field_width c (get_or layouts k kept) → w ≡ width_in l c
+  pub width_some : (t : Bool) → t ≡ is_err j → t ≡ false → (k : ℕ) → k ≡ kind_of (code_at l) → (w : ℕ) → w ≡ field_width c (get_or layouts k kept) → w ≡ width_in l c
   unfolding width_in layout
-  width_some q k z w x = x ∙ sym (rw (good_ok (read_line chapter4 l) (sym p ∙ q), ← z))
+  width_some t e h k z w x = x ∙ sym (rw (sym (bad t e) ∙ ap not h, ← z))
+
+  pub width_kind : (t : Bool) → t ≡ is_err j → t ≡ false → (k : ℕ) → k ≡ kind_of (code_at l) → k < 14
+  width_kind t e h k z = omega (arith, reads_kind l (sym (bad t e) ∙ ap not h))
 
 module _ (f : List ℕ) (n c : ℕ) where
   -- by the record's line, or by there being none

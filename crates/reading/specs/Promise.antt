@@ -1,11 +1,12 @@
 -- What read and field promise.
-use Rattle.std.specs.Prelude.{◌≡◌, List, ℕ, ◌+◌}
+use Rattle.std.specs.Prelude.{◌≡◌, List, ℕ, ◌+◌, Result, Option}
 use Rattle.rules.specs.Calls.{read_of, field_of, field_offset}
-use Rattle.kinds.specs.declared.Reading.{Reading}
+use Rattle.kinds.specs.declared.Fault.{Fault}
+use Rattle.kinds.specs.declared.Record.{Record}
 use Rattle.kinds.specs.Values.{reading_of}
 
 -- read: the answer r of record n of a file f
-pub record PromisedReading (f : List ℕ) (n : ℕ) (r : Reading) : Type 0 where
+pub record PromisedReading (f : List ℕ) (n : ℕ) (r : Result (Option ℕ × Record) Fault) : Type 0 where
   pub answered : r ≡ reading_of (read_of f n)
 
 -- field: the columns at column c of record n of a file f. The file starts at byte `start` of a block; the columns lie at byte `at` of a block b

@@ -20,7 +20,7 @@ use crate::values::{read_record, read_sequence};
 use crate::widths::field_width;
 use judging::codes::kind_at;
 use judging::lines::judge_alone;
-use kinds::{Fault, Judged, Reading};
+use kinds::{Fault, Record};
 
 // 13 is for record 0, above 99,999, and past the last.
 pub fn is_there(file: &[u8], record: usize) -> bool
@@ -29,41 +29,29 @@ pub fn is_there(file: &[u8], record: usize) -> bool
     ((1 <= record) & (record <= 99_999)) & (record <= count_begun(file))
 }
 
-fn read_line(line: &[u8], record: usize) -> Reading
+fn read_line(line: &[u8], record: usize) -> Result<(Option<u32>, Record), Fault>
     ensures { result ≡ reading_of (read_as «record» line.now (read_line chapter4 line.now)) }
 {
-    let j = judge_alone(line);
-    if let Judged::Bad(n, c) = j {
-        return Reading::Refused(Fault {
-            number: n,
-            record: record,
-            column: c,
-        });
-    }
+    judge_alone(line).map_err(|flaw| flaw.in_record(record))?;
     let kind = kind_at(line);
-    Reading::Values(read_sequence(line), read_record(line, kind))
+    Ok((read_sequence(line), read_record(line, kind)))
 }
 
 // A record by its number, judged by itself: its sequence number and values, or the refusal.
-pub fn read(file: &[u8], record: usize) -> Reading
+pub fn read(file: &[u8], record: usize) -> Result<(Option<u32>, Record), Fault>
     ensures { PromisedReading file.now «record» result }
 {
     if is_there(file, record) {
         let l = line(file, record - 1);
         return read_line(l, record);
     }
-    Reading::Refused(Fault {
-        number: 13,
-        record: record,
-        column: 0,
-    })
+    Err(Fault::new(13, record, 0))
 }
 
 fn width_in(line: &[u8], column: usize) -> usize
     ensures { result ≡ width_in line.now column }
 {
-    let j = judge_alone(line);
-    if let Judged::Bad(n, c) = j {
+    if judge_alone(line).is_err() {
         return 0;
     }
     let kind = kind_at(line);

@@ -5,6 +5,7 @@ use mathlib.Core.List.{List, [], ◌∷◌}
 use Prim.Native.Nat.{ℕ, ◌≤◌, ◌<◌}
 use lib.ListN.{length}
 use borrow.Rule.Slice.PartMut.{put_mid}
+use Rattle.std.specs.Prelude.{Result, Ok, Err}
 use Rattle.rules.specs.Tests.{◌≤?◌, all}
 use Rattle.rules.specs.Items.{Value, fits, render, number, media, angle, latitude, longitude, num}
 use Rattle.rules.specs.Fields.{Verdict, check, ◌⨾◌, is_ok, given, entries_of, is_formed, formed}
@@ -20,8 +21,8 @@ use Rattle.kinds.specs.declared.Occupation.{Occupation}
 use Rattle.kinds.specs.declared.Point.{Point}
 use Rattle.kinds.specs.declared.Record.{Record}
 use Rattle.kinds.specs.declared.Record.TheVariants as R
-use Rattle.kinds.specs.declared.Judged.{Judged}
-use Rattle.kinds.specs.declared.Written.{Written}
+use Rattle.kinds.specs.declared.Flaw.{Flaw}
+use Rattle.kinds.specs.declared.Fault.{Fault}
 use Rattle.kinds.specs.Values.{kind_number, code_of, values_of, meaning_of, judged_of, written_of}
 use Rattle.kinds.proofs.ValueLaws.{good_is, bad_is}
 use Rattle.given_records.specs.Judging.{layout_of}
@@ -66,23 +67,23 @@ module _ (a b c : List ℕ) {w : Record} (h : formed (entries_of (layout_of (kin
   angles_fitting p e = let t = (both (both (rw e at h)).1).1 in ((both t).0, (both (both t).1).0)
 
 -- ---- the call
-pub judged_good : (v : Verdict) {j : Judged} → j ≡ judged_of v → j ≡ Judged.Good → is_ok v ≡ true
+pub judged_good : (v : Verdict) {j : Result (Unit {0}) Flaw} → j ≡ judged_of v → j ≡ Ok tt → is_ok v ≡ true
 judged_good v e h = ap is_ok (good_is v (sym e ∙ h)) ∙ unfold is_ok in refl
 
 module _ (s : Option ℕ) (w : Record) (a b c out : List ℕ) where
-  pub write_short : length out < 81 → Promised s w a b c out (Written.Refused record { number = 1; «record» = 0; column = 0 }) out
+  pub write_short : length out < 81 → {x : Fault} → x ≡ record { number = 1; «record» = 0; column = 0 } → Promised s w a b c out (Err x) out
   unfolding written_of write_verdict write_output check ◌⨾◌ is_ok
-  write_short h = let e : 81 ≤? length out ≡ false = of> h in record { answer = sym (rw e); output = sym (rw e) }
+  write_short h z = let e : 81 ≤? length out ≡ false = of> h in record { answer = rw z (sym (rw e)); output = sym (rw e) }
 
-  module _ (h : 81 ≤ length out) {j : Judged} (g : j ≡ judged_of (judge_given chapter4 (kind_number w) (count_value s) (meaning_of w a b c))) where
+  module _ (h : 81 ≤ length out) {j : Result (Unit {0}) Flaw} (g : j ≡ judged_of (judge_given chapter4 (kind_number w) (count_value s) (meaning_of w a b c))) where
     verdict_is : write_verdict (length out) (kind_number w) (count_value s) (meaning_of w a b c) ≡ judge_given chapter4 (kind_number w) (count_value s) (meaning_of w a b c)
     unfolding write_verdict check ◌⨾◌
     verdict_is = rw (of≤ h)
 
-    pub write_bad : (n d : ℕ) → j ≡ Judged.Bad n d → Promised s w a b c out (Written.Refused record { number = n; «record» = 0; column = d }) out
+    pub write_bad : (f : Flaw) → j ≡ Err f → {r : Result (Unit {0}) Fault} → r ≡ Err record { number = f.number; «record» = 0; column = f.column } → Promised s w a b c out r out
     unfolding written_of write_output is_ok
-    write_bad n d z = let e = verdict_is ∙ bad_is (judge_given chapter4 (kind_number w) (count_value s) (meaning_of w a b c)) n d (sym g ∙ z) in record { answer = sym (rw e); output = sym (rw e) }
+    write_bad f z y = let e = verdict_is ∙ bad_is (judge_given chapter4 (kind_number w) (count_value s) (meaning_of w a b c)) f (sym g ∙ z) in record { answer = y ∙ sym (rw e); output = sym (rw e) }
 
-    pub write_good : {line : List ℕ} → j ≡ Judged.Good → line ≡ line_of chapter4 (count_value s) (meaning_of w a b c) → Promised s w a b c out Written.Done (put_mid 0 81 out line)
+    pub write_good : {line : List ℕ} → j ≡ Ok tt → line ≡ line_of chapter4 (count_value s) (meaning_of w a b c) → Promised s w a b c out (Ok tt) (put_mid 0 81 out line)
     unfolding written_of write_output is_ok
     write_good z d = let e = verdict_is ∙ good_is (judge_given chapter4 (kind_number w) (count_value s) (meaning_of w a b c)) (sym g ∙ z) in record { answer = sym (rw e); output = sym (rw (e, d)) }

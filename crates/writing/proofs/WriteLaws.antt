@@ -5,6 +5,7 @@ use mathlib.Core.List.{List, ◌++◌}
 use Prim.Native.Nat.{ℕ}
 use lib.ListN.{length, take, drop}
 use lib.Seq.{take_at, drop_at}
+use Rattle.std.specs.Prelude.{Result, Ok, Err}
 use Rattle.rules.specs.Tests.{◌≤?◌}
 use Rattle.rules.specs.Items.{value_of}
 use Rattle.rules.specs.Fields.{Verdict, ok, fault, check, is_ok}
@@ -17,7 +18,6 @@ use Rattle.rules.proofs.RecordLaws.{ReadsBack, written_reads_back}
 use Rattle.rules.proofs.Chapter4Laws.{sound}
 use Rattle.kinds.specs.declared.Record.{Record}
 use Rattle.kinds.specs.declared.Fault.{Fault}
-use Rattle.kinds.specs.declared.Written.{Written}
 use Rattle.kinds.specs.Values.{kind_number, meaning_of, record_of, written_of}
 use Rattle.kinds.proofs.ValueLaws.{sequence_back, record-back}
 use Rattle.writing.specs.Promise.{Promised}
@@ -25,27 +25,27 @@ use Rattle.writing.proofs.LineLaws.{given_kind}
 use Rattle.std.specs.Prelude.{Option}
 use Rattle.columns.specs.Types.{count_of, count_value}
 
-done_ok : (v : Verdict) → written_of v ≡ Written.Done → v ≡ ok
+done_ok : (v : Verdict) → written_of v ≡ Ok tt → v ≡ ok
 unfolding written_of
 done_ok ok e = refl
 done_ok (fault n c) e = cc
 
-refused_bad : (v : Verdict) (f : Fault) → written_of v ≡ Written.Refused f → is_ok v ≡ false
+refused_bad : (v : Verdict) (f : Fault) → written_of v ≡ Err f → is_ok v ≡ false
 unfolding written_of is_ok
 refused_bad ok f e = cc
 refused_bad (fault n c) f e = refl
 
 module _ (s : Option ℕ) (w : Record) (a b c out : List ℕ) where
   -- 01, "Each public call's promise determines its verdict, its values and every lent byte"
-  pub one_result : {r r' : Written} {left left' : List ℕ} → Promised s w a b c out r left → Promised s w a b c out r' left' → (r ≡ r') × (left ≡ left')
+  pub one_result : {r r' : Result (Unit {0}) Fault} {left left' : List ℕ} → Promised s w a b c out r left → Promised s w a b c out r' left' → (r ≡ r') × (left ≡ left')
   one_result p q = (p.answer ∙ sym q.answer, p.output ∙ sym q.output)
 
   -- a refusal leaves the output as it was
-  pub refused_leaves : {f : Fault} {left : List ℕ} → Promised s w a b c out (Written.Refused f) left → left ≡ out
+  pub refused_leaves : {f : Fault} {left : List ℕ} → Promised s w a b c out (Err f) left → left ≡ out
   unfolding write_output
   refused_leaves {f} p = p.output ∙ rw (refused_bad _ f (sym p.answer))
 
-  module _ {left : List ℕ} (p : Promised s w a b c out Written.Done left) where
+  module _ {left : List ℕ} (p : Promised s w a b c out (Ok tt) left) where
     all_ok : is_ok (write_verdict (length out) (kind_number w) (count_value s) (meaning_of w a b c)) ≡ true
     all_ok = ap is_ok (done_ok _ (sym p.answer)) ∙ unfold is_ok in refl
 

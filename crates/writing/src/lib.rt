@@ -3,7 +3,7 @@
 #![tactic(auto)]
 
 use given_records::records::judge_given;
-use kinds::{Fault, Judged, Record, Written};
+use kinds::{Fault, Record};
 
 mod lines;
 
@@ -19,25 +19,13 @@ pub fn write(
     first: &[u8],
     second: &[u8],
     third: &[u8],
-) -> Written
+) -> Result<(), Fault>
     ensures { Promised sequence what first.now second.now third.now out.old result out.new }
 {
     if out.len() < 81 {
-        return Written::Refused(Fault {
-            number: 1,
-            record: 0,
-            column: 0,
-        });
+        return Err(Fault::new(1, 0, 0));
     }
-    match judge_given(sequence, what, first, second, third) {
-        Judged::Bad(number, column) => Written::Refused(Fault {
-            number: number,
-            record: 0,
-            column: column,
-        }),
-        Judged::Good => {
-            lay_line(&mut out[0..81], sequence, what, first, second, third);
-            Written::Done
-        }
-    }
+    judge_given(sequence, what, first, second, third).map_err(|flaw| flaw.in_record(0))?;
+    lay_line(&mut out[0..81], sequence, what, first, second, third);
+    Ok(())
 }

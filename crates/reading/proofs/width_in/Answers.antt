@@ -1,12 +1,12 @@
 use borrow.Author.Rules.{rules}
-use Rattle.reading.proofs.CallLaws.{kind_small, width_none, width_some}
+use Rattle.reading.proofs.CallLaws.{width_none, width_some, width_kind}
 use Rattle.reading.proofs.width_in.Goals as goal
 
-pub returns-in-Bad : goal.returns-in-Bad
-returns-in-Bad c = search (width_none, rules)
+pub returns-then-is_err : goal.returns-then-is_err
+returns-then-is_err c = search (width_none, rules)
 
 pub field_width-requires : goal.field_width-requires
-field_width-requires c = search (kind_small, rules)
+field_width-requires c = search (width_kind, rules)
 
 pub returns : goal.returns
 returns c = search (width_some, rules)

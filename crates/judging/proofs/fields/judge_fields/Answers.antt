@@ -5,14 +5,14 @@ use Rattle.judging.proofs.fields.judge_fields.Goals as goal
 pub loop-i-init : goal.loop-i-init
 loop-i-init c = search (walk_from, rules)
 
-pub judge_at-j-requires : goal.judge_at-j-requires
-judge_at-j-requires c = (search rules, below c.loop-i.invariant c.loop-i-test.true)
+pub judge_at-requires : goal.judge_at-requires
+judge_at-requires c = (search rules, below c.loop-i.invariant c.loop-i-test.true)
 
 pub point_at-requires : goal.point_at-requires
 point_at-requires c = (search rules, below c.loop-i.invariant c.loop-i-test.true)
 
-pub returns-in-Bad : goal.returns-in-Bad
-returns-in-Bad c = search (walk_stop, rules)
+pub returns-in-Err : goal.returns-in-Err
+returns-in-Err c = search (walk_stop, rules)
 
 pub loop-i-preserved : goal.loop-i-preserved
 loop-i-preserved c = search (walk_on, rules)

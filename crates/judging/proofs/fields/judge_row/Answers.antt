@@ -18,10 +18,10 @@ pub returns-then-good_item : goal.returns-then-good_item
 returns-then-good_item c =
     let p = c.requires in
     row_odd c.args.line.now c.args.first c.args.width p.0 p.1 p.2 (expect_of c.args.e) c.args.item c.args.bond
-    c.good_item.result c.good_item.ensures c.if-good_item.true c.agrees_item.result c.agrees_item.ensures c.if-agrees_item.false
+    c.good_item.result c.good_item.ensures c.if-good_item.true c.agrees_item.result c.agrees_item.ensures c.if-agrees_item.false c.new.ensures
 
 pub returns : goal.returns
 returns c =
     let p = c.requires in
     row_bad c.args.line.now c.args.first c.args.width p.0 p.1 p.2 (expect_of c.args.e) c.args.item c.args.bond
-    c.good_item.result c.good_item.ensures c.if-good_item.false
+    c.good_item.result c.good_item.ensures c.if-good_item.false c.new-2.ensures

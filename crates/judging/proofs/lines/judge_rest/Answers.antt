@@ -6,8 +6,8 @@ use Rattle.judging.proofs.lines.judge_rest.Goals as goal
 pub returns-then-has_number : goal.returns-then-has_number
 returns-then-has_number c = search (rest_good, rules)
 
-pub overflow_add-result : goal.overflow_add-result
-overflow_add-result c = omega (arith, spot_few c.args.line.now c.spot_number.result c.spot_number.ensures)
+pub overflow_add-spot_number : goal.overflow_add-spot_number
+overflow_add-spot_number c = omega (arith, spot_few c.args.line.now c.spot_number.result c.spot_number.ensures)
 
 pub returns : goal.returns
 returns c = search (rest_bad, rules)

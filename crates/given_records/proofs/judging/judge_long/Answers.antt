@@ -1,6 +1,0 @@
--- The field's test by its own promise, after the verdict so far.
-use mathlib.Core.Path.{◌∙◌}
-use Rattle.given_records.proofs.judging.judge_long.Goals as goal
-
-pub returns : goal.returns
-returns c = c.judge_test.ensures ∙ rw c.number_fits.ensures
