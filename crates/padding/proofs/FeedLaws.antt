@@ -3,15 +3,14 @@ use mathlib.Core.Path.{◌≡◌, refl, sym, ◌∙◌, ap}
 use mathlib.Core.Logic.{◌⊎◌, inl, inr}
 use mathlib.Core.Bool.{true, false, cond, not, false≢true}
 use mathlib.Core.List.{List, [], ◌∷◌}
-use Prim.Native.Nat.{ℕ, zero, suc, ◌+◌, ◌-◌, ◌%◌, ◌≤◌, ◌<◌}
+use Prim.Native.Nat.{ℕ, zero, suc, ◌+◌, ◌-◌, ◌%◌, ◌≤◌, ◌<◌, min}
 use native.Mathlib.Nat.{le_trans}
-use native.Mathlib.Numerals.{add-one}
 use native.Mathlib.Omega.{arith}
-use lib.ListN.{length, length-drop, get_or, take, drop, drop_of_length-le}
+use lib.ListN.{length, length-drop, get_or, take, drop}
 use lib.Seq.{drop-cons, length-take-le, take_all}
 use Rattle.rules.specs.Tests.{all, ◌≤?◌, ◌=?◌}
 use Rattle.rules.proofs.Truth.{both, to≤, to≡, of≡, of≢, no≤, no≡, cases, either}
-use Rattle.padding.specs.Lines.{feed_at, is_free, lesser, nearer_of, nearest}
+use Rattle.padding.specs.Lines.{feed_at, is_free, nearer_of, nearest}
 
 -- ---- byte by byte
 pub feed_most : (f : List ℕ) → feed_at f ≤ length f
@@ -19,29 +18,22 @@ unfolding feed_at
 feed_most [] = omega arith
 feed_most (b ∷ bs) = cases (b =? 10) (λ e. rw e (omega arith)) (λ e. rw e (omega (arith, feed_most bs)))
 
+pub feed_nowhere : feed_at [] ≡ 0
+unfolding feed_at
+feed_nowhere = refl
+
+pub feed_first : (b : ℕ) (bs : List ℕ) → b ≡ 10 → feed_at (b ∷ bs) ≡ 0
+unfolding feed_at
+feed_first b bs e = rw (of≡ e)
+
+pub feed_later : (b : ℕ) (bs : List ℕ) → (b ≡ 10 → ⊥) → feed_at (b ∷ bs) ≡ feed_at bs + 1
+unfolding feed_at
+feed_later b bs e = rw (of≢ e) (omega arith)
+
 module _ (f : List ℕ) (i : ℕ) (h : i < length f) where
   pub feed_here : get_or f i 0 ≡ 10 → feed_at (drop i f) ≡ 0
   unfolding feed_at
   feed_here e = rw (drop-cons f i 0 h, of≡ e)
-
-  pub feed_further : (get_or f i 0 ≡ 10 → ⊥) → feed_at (drop i f) ≡ 1 + feed_at (drop (i + 1) f)
-  unfolding feed_at
-  feed_further e = rw (drop-cons f i 0 h, of≢ e, add-one) (omega arith)
-
-pub feed_none : (f : List ℕ) (i : ℕ) → length f ≤ i → feed_at (drop i f) ≡ 0
-unfolding feed_at
-feed_none f i h = rw (drop_of_length-le f h)
-
--- the loop: what was passed, with what stands before the first LF from here on, is what stands before it from the start
-module _ (f : List ℕ) (i : ℕ) (s : i + feed_at (drop i f) ≡ feed_at f) where
-  pub find_here : i < length f → get_or f i 0 ≡ 10 → i ≡ feed_at f
-  find_here h e = omega (arith, s, feed_here f i h e)
-
-  pub find_further : i < length f → (get_or f i 0 ≡ 10 → ⊥) → i + 1 + feed_at (drop (i + 1) f) ≡ feed_at f
-  find_further h e = omega (arith, s, feed_further f i h e)
-
-  pub find_none : length f ≤ i → i ≤ length f → length f ≡ feed_at f
-  find_none h k = omega (arith, s, feed_none f i h)
 
 -- ---- in the first m bytes
 pub feed_near : (m : ℕ) (f : List ℕ) → feed_at f < m → feed_at (take m f) ≡ feed_at f
@@ -115,12 +107,11 @@ module _ (f : List ℕ) where
       (λ e. rw e record { most = omega arith; there = λ _. to≡ e; least = λ k. either (λ p t. omega (arith, p)) (λ q t. g k q) })
       (λ e. rw e record { most = x.most; there = x.there; least = λ k. either (λ p t. absurd (no≡ e (ap (λ i. get_or f i 0) (sym p) ∙ t))) (λ q t. x.least k q t) })
 
-  found_both : {P Q : ℕ → Type 0} (a b : ℕ) → Found f P a → Found f Q b → Found f (λ k. P k ⊎ Q k) (lesser a b)
-  unfolding lesser
+  found_both : {P Q : ℕ → Type 0} (a b : ℕ) → Found f P a → Found f Q b → Found f (λ k. P k ⊎ Q k) (min a b)
   found_both a b x y =
       cases (a ≤? b)
-      (λ e. rw e record { most = x.most; there = x.there; least = λ j. either (λ p t. x.least j p t) (λ q t. le_trans (to≤ e) (y.least j q t)) })
-      (λ e. rw e record { most = y.most; there = y.there; least = λ j. either (λ p t. omega (arith, no≤ e, x.least j p t)) (λ q t. y.least j q t) })
+      (λ e. let m : min a b ≡ a = omega (arith, to≤ e) in rw m record { most = x.most; there = x.there; least = λ j. either (λ p t. x.least j p t) (λ q t. le_trans (to≤ e) (y.least j q t)) })
+      (λ e. let m : min a b ≡ b = omega (arith, no≤ e) in rw m record { most = y.most; there = y.there; least = λ j. either (λ p t. omega (arith, no≤ e, x.least j p t)) (λ q t. y.least j q t) })
 
   found_some : {P Q : ℕ → Type 0} (r : ℕ) → ((j : ℕ) → Q j → P j) → Found f P r → Found f Q r
   found_some r g x = record { most = x.most; there = x.there; least = λ j q t. x.least j (g j q) t }
@@ -156,7 +147,7 @@ module _ (f : List ℕ) where
   new_or_old : (i j : ℕ) → Seen (i + 1) j → Seen i j ⊎ Five i j
   new_or_old i j s = cases (suc (j % 16) ≤? i) (λ e. inl (s.0, to≤ e)) (λ e. inr (which i j s.0 (omega (arith, no≤ e, s.1))))
 
-  pub found_turn : (i first : ℕ) → i < 16 → Found f (Seen i) first → Found f (Seen (i + 1)) (lesser first (nearest f i))
+  pub found_turn : (i first : ℕ) → i < 16 → Found f (Seen i) first → Found f (Seen (i + 1)) (min first (nearest f i))
   found_turn i first h x = found_some _ (new_or_old i) (found_both first (nearest f i) x (found_five i h))
 
 -- the first LF is the one before which none stands

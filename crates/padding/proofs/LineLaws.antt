@@ -7,10 +7,10 @@ use lib.ListN.{length, length-drop, length-replicate, length-set, get_or, set, t
 use lib.Seq.{length-take-le, take-take, get_or-take, get_or-drop, get_or-append-add, get_or-append_seam}
 use Rattle.rules.specs.Tests.{◌≤?◌}
 use Rattle.rules.specs.Padding.{padded_line}
-use Rattle.rules.proofs.Truth.{to≤, no≤, of≤, cases}
+use Rattle.rules.proofs.Truth.{to≤, no≤, cases}
 use Rattle.rules.proofs.PaddingLaws.{line_81}
 use Rattle.columns.proofs.Loops.{fill_turn, fill_end}
-use Rattle.padding.specs.Lines.{larger, lesser, column_of, mask_bytes}
+use Rattle.padding.specs.Lines.{column_of, mask_bytes}
 
 -- its columns, and what stands behind them
 module _ (t : List ℕ) (h : length t ≤ 80) where
@@ -73,12 +73,12 @@ own_long n h ms e =
     rw width (length-take-le 160 (drop (80 - n) ms) (omega (arith, masks_long ms e, length-drop (80 - n) ms)))
 
 column_kept : (b : ℕ) → b ≤ 255 → column_of b 255 0 ≡ b
-unfolding column_of larger lesser
-column_kept b h = rw (of≤ h) (cases (b ≤? 0) (λ e. rw e (omega (arith, to≤ e))) (λ e. rw e))
+unfolding column_of
+column_kept b h = omega arith
 
 column_filled : (b : ℕ) → column_of b 0 32 ≡ 32
-unfolding column_of larger lesser
-column_filled b = cases (b ≤? 0) (λ e. let few : b ≤ 32 = omega (arith, to≤ e) in rw (e, of≤ few)) (λ e. let few : 0 ≤ 32 = omega arith in rw (e, of≤ few))
+unfolding column_of
+column_filled b = omega arith
 
 -- the 160 masks of a line of n bytes
 module _ (n : ℕ) (few : n ≤ 80) (ms : List ℕ) (em : ms ≡ take 160 (drop (80 - n) mask_bytes)) where

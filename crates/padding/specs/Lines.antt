@@ -1,5 +1,5 @@
 -- One line found in the bytes in which it stands: what the functions on one line promise.
-use Rattle.std.specs.Prelude.{Bool, cond, not, List, [], ◌∷◌, ◌++◌, ℕ, zero, suc, ◌+◌, length, replicate, get_or}
+use Rattle.std.specs.Prelude.{Bool, cond, not, List, [], ◌∷◌, ◌++◌, ℕ, zero, suc, ◌+◌, min, max, length, replicate, get_or}
 use Rattle.rules.specs.Tests.{all, ◌≤?◌, ◌=?◌}
 
 -- how many bytes stand before the first LF
@@ -16,9 +16,6 @@ text_length bs zero = 0
 text_length bs (suc n) = cond (length bs ≤? suc n) (suc n) (cond (get_or bs n 0 =? 13) n (suc n))
 
 -- ---- the first LF of 80 bytes, five of them at a time
-unfoldable pub lesser : ℕ → ℕ → ℕ
-lesser a b = cond (a ≤? b) a b
-
 unfoldable pub nearer_of : (b place further : ℕ) → ℕ
 nearer_of b place further = cond (b =? 10) place further
 
@@ -28,12 +25,9 @@ nearest bs i =
     or i (or (16 + i) (or (32 + i) (or (48 + i) (or (64 + i) 80))))
 
 -- ---- a line in its columns
-unfoldable pub larger : ℕ → ℕ → ℕ
-larger a b = cond (a ≤? b) b a
-
 -- what stands in a column: of the line's byte as much as is kept, else the blank
 unfoldable pub column_of : (b kept blank : ℕ) → ℕ
-column_of b kept blank = larger (lesser b kept) blank
+column_of b kept blank = max (min b kept) blank
 
 -- 80 columns that keep a byte, 80 that keep none, 80 blanks
 unfoldable pub mask_bytes : List ℕ

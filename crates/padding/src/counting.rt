@@ -33,9 +33,8 @@ fn walk_in_turn(input: &[u8], ends: &[usize; 4], places: &mut [usize; 4]) -> u32
         return 0;
     }
     let last = size - 82;
-    let mut lines: u32 = 0;
-    while lines < 99_999 {
-        let k = (lines % 4) as usize;
+    for lines in 0..99_999 {
+        let k = (lines % 4) as usize; // Kept: usize has no From<u32>.
         let place = places[k];
         if ends[k] <= place {
             return lines;
@@ -49,9 +48,8 @@ fn walk_in_turn(input: &[u8], ends: &[usize; 4], places: &mut [usize; 4]) -> u32
             return lines;
         }
         places[k] += n + 1;
-        lines += 1;
     }
-    lines
+    99_999
 }
 
 // One walk on to its end.
@@ -61,6 +59,7 @@ fn walk_on(input: &[u8], from: usize, end: usize, before: u32) -> Walk
 {
     let mut place: usize = from;
     let mut lines: u32 = before;
+    // Kept: a walk steps by the length of a line, and no range has its places.
     while place < end {
         if lines == 99_999 {
             return Walk {
@@ -91,15 +90,13 @@ fn walk_out(input: &[u8], ends: &[usize; 4], places: &[usize; 4], before: u32) -
     ensures { (result ≡ 0 → ⊥) → Passed input.now places.now before ends.now result }
 {
     let mut lines: u32 = before;
-    let mut k: usize = 0;
-    while k < 4 {
+    for k in 0..4 {
         let end = ends[k];
         let walk = walk_on(input, places[k], end, lines);
         if walk.place != end {
             return 0;
         }
         lines = walk.lines;
-        k += 1;
     }
     lines
 }

@@ -1,9 +1,8 @@
 // One line laid into 81 bytes of the output.
 ghost use Rattle.std.specs.Prelude.{◌≡◌, ◌≤◌, length, take};
 ghost use Rattle.rules.specs.Padding.{padded_line};
-ghost use Rattle.padding.specs.Lines.{column_of, larger, mask_bytes};
+ghost use Rattle.padding.specs.Lines.{column_of, mask_bytes};
 
-use crate::lines::lesser_of;
 use columns::parts::byte_at;
 
 // Three times 80 columns: such as keep a line's byte, such as keep nothing, and blanks. Of a line of n bytes the 80 from 80 - n on say what
@@ -22,17 +21,11 @@ pub(crate) const MASKS: [u8; 240] = *b"\
     \x20\x20\x20\x20\x20\x20\x20\x20\x20\x20\x20\x20\x20\x20\x20\x20\x20\x20\x20\x20\
     \x20\x20\x20\x20\x20\x20\x20\x20\x20\x20\x20\x20\x20\x20\x20\x20\x20\x20\x20\x20";
 
-fn larger_of(a: u8, b: u8) -> u8
-    ensures { result ≡ larger a b }
-{
-    if a <= b { b } else { a }
-}
-
 // What stands in a column: the line's byte where it is kept, else a blank. It is told by no branch.
 fn column_of(b: u8, kept: u8, blank: u8) -> u8
     ensures { result ≡ column_of b kept blank }
 {
-    larger_of(lesser_of(b, kept), blank)
+    b.min(kept).max(blank)
 }
 
 // The first n bytes in 80 columns, and an LF.
@@ -42,10 +35,8 @@ fn lay_columns(part: &[u8], n: usize, masks: &[u8], out: &mut [u8])
 {
     let from = 80 - n;
     let own = &masks[from..from + 160];
-    let mut i: usize = 0;
-    while i < 80 {
+    for i in 0..80 {
         out[i] = column_of(byte_at(part, i), own[i], own[80 + i]);
-        i += 1;
     }
     out[80] = 10;
 }

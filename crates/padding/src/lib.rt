@@ -52,13 +52,14 @@ fn good(lines: u32) -> Padded
     }
 }
 
-// Line by line, 2 and then 5. Nothing is written before the last line is judged, since a refusal leaves the output as it was.
+// Line by line, 2 and then 5. Here and below `as` is kept: usize has no From<u32>. Nothing is written before the last line is judged, since a refusal leaves the output as it was.
 fn judge_lines(input: &[u8]) -> Padded
     ensures { result ≡ padded_of (pad_answer_by (judge_texts 1 (texts input.now)) (length (texts input.now))) }
 {
     let size = input.len();
     let mut at: usize = 0;
     let mut lines: u32 = 0;
+    // Kept: each step is the length of a line, and no range has the places.
     while at < size {
         if lines == 99_999 {
             return refused(2, 100_000, 1);

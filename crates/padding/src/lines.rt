@@ -1,6 +1,6 @@
 // One line of an input, looked for in the bytes in which a good line and its end must stand: 82, or as many as are left.
 ghost use Rattle.std.specs.Prelude.{◌≡◌, ◌<◌, length};
-ghost use Rattle.padding.specs.Lines.{feed_at, is_free, lesser, nearer_of, nearest, text_length};
+ghost use Rattle.padding.specs.Lines.{feed_at, is_free, nearer_of, nearest, text_length};
 
 use columns::parts::byte_at;
 
@@ -8,36 +8,14 @@ use columns::parts::byte_at;
 fn find_feed(part: &[u8]) -> usize
     ensures { result ≡ feed_at part.now }
 {
-    let n = part.len();
-    let mut i: usize = 0;
-    while i < n {
-        if part[i] == 10 {
-            return i;
-        }
-        i += 1;
-    }
-    n
+    part.iter().position(|&b| b == 10).unwrap_or(part.len())
 }
 
 // Here and in `first_feed` no branch is taken, so that the compiler looks at many bytes at once.
 fn has_no_feed(part: &[u8]) -> bool
     ensures { result ≡ is_free part.now }
 {
-    let n = part.len();
-    let mut free = true;
-    let mut i: usize = 0;
-    while i < n {
-        let b = part[i];
-        free = free & (b != 10);
-        i += 1;
-    }
-    free
-}
-
-pub(crate) fn lesser_of(a: u8, b: u8) -> u8
-    ensures { result ≡ lesser a b }
-{
-    if a <= b { a } else { b }
+    part.iter().fold(true, |free, &b| free & (b != 10))
 }
 
 // The place of an LF, or one further on.
@@ -65,14 +43,10 @@ fn first_feed(part: &[u8]) -> usize
     ensures { result ≡ feed_at part.now }
 {
     let mut first: u8 = 80;
-    let mut place: u8 = 0;
-    let mut i: usize = 0;
-    while i < 16 {
-        first = lesser_of(first, nearest_feed(part, i, place));
-        place += 1;
-        i += 1;
+    for place in 0..16u8 {
+        first = first.min(nearest_feed(part, usize::from(place), place));
     }
-    first as usize
+    usize::from(first)
 }
 
 // Where the first LF stands. A full line is soon told, and only in a trimmed one it is looked for.

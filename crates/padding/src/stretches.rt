@@ -40,6 +40,7 @@ fn lay_in_turn(input: &[u8], near: Stretch, far: Stretch, masks: &[u8], out: &mu
         };
     }
     let last = size - 82;
+    // Kept: the stretches change places with each line, and each counts what it has left.
     while 0 < here.lines {
         let from = here.from;
         if last < from {
@@ -75,8 +76,7 @@ fn lay_stretch(input: &[u8], stretch: Stretch, masks: &[u8], out: &mut [u8])
 {
     let mut from = stretch.from;
     let mut a = stretch.to;
-    let mut lines = stretch.lines;
-    while 0 < lines {
+    for _ in 0..stretch.lines {
         let part = middle(input, from, 82);
         let n = feed_at(part);
         let k = text_length(part, n);
@@ -84,7 +84,6 @@ fn lay_stretch(input: &[u8], stretch: Stretch, masks: &[u8], out: &mut [u8])
         lay_line(part, k, masks, &mut out[a..e]);
         from += n + 1;
         a = e;
-        lines -= 1;
     }
 }
 

@@ -2,7 +2,7 @@ use mathlib.Core.Path.{◌≡◌}
 use mathlib.Core.List.{List}
 use Prim.Native.Nat.{ℕ, ◌+◌, ◌-◌, ◌%◌, ◌≤◌}
 use native.Mathlib.Omega.{arith}
-use lib.ListN.{get_or, take, drop}
+use lib.ListN.{take, drop}
 use borrow.Author.Rules.{rules}
 use Rattle.padding.specs.Lines.{feed_at}
 use Rattle.padding.proofs.WalkLaws.{within_82, passed_none, turn_next}

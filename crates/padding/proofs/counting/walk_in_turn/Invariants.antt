@@ -1,12 +1,8 @@
 -- The invariant: the walks have passed good lines only.
 use mathlib.Core.Path.{◌≡◌}
-use Prim.Native.Nat.{◌-◌}
 use lib.ListN.{length}
 use Rattle.padding.specs.Walks.{Passed}
 use Rattle.padding.proofs.counting.walk_in_turn.Given as goal
 
 abbrev pub invariant-loop-lines : goal.invariant-loop-lines
 invariant-loop-lines l = (length l.places ≡ 4) × Passed l.input l.initial.places 0 l.places l.lines
-
-abbrev pub decreases-loop-lines : goal.decreases-loop-lines
-decreases-loop-lines l = 99_999 - l.lines

@@ -8,6 +8,3 @@ use Rattle.padding.proofs.laying.lay_columns.Given as goal
 
 abbrev pub invariant-loop-i : goal.invariant-loop-i
 invariant-loop-i l = (l.own ≡ take 160 (drop (80 - l.n) mask_bytes)) × Filling l.part l.n l.out l.i
-
-abbrev pub decreases-loop-i : goal.decreases-loop-i
-decreases-loop-i l = 80 - l.i

@@ -1,22 +1,22 @@
-use mathlib.Core.Path.{refl, sym, ◌∙◌, ap, subst}
-use Prim.Native.Nat.{◌+◌}
+use mathlib.Core.Path.{sym, ◌∙◌, ap, subst}
+use Prim.Native.Nat.{◌+◌, min}
 use native.Mathlib.Omega.{arith}
 use borrow.Author.Rules.{rules}
-use Rattle.padding.specs.Lines.{lesser}
+use Rattle.padding.specs.Lines.{nearest}
 use Rattle.padding.proofs.FeedLaws.{Found, Seen, seen_none, found_turn, found_all}
 use Rattle.padding.proofs.lines.first_feed.Goals as goal
 
-pub loop-i-init : goal.loop-i-init
-loop-i-init c = (c.requires, omega arith, refl, seen_none _)
+pub loop-place-init : goal.loop-place-init
+loop-place-init c = (c.requires, seen_none _)
 
 pub nearest_feed-requires : goal.nearest_feed-requires
-nearest_feed-requires c = (search rules, search rules, search rules)
+nearest_feed-requires c = (search rules, omega arith, sym c.from.ensures)
 
-pub loop-i-preserved : goal.loop-i-preserved
-loop-i-preserved c =
+pub loop-place-preserved : goal.loop-place-preserved
+loop-place-preserved c =
     let f = c.args.part.now in
-    (c.loop-i.invariant.0, omega arith, omega (arith, c.loop-i.invariant.2), subst (Found f (Seen f (c.loop-i.i + 1))) (sym (c.lesser_of-first.ensures ∙ ap (lesser c.loop-i.first) c.nearest_feed.ensures)) (found_turn f c.loop-i.i c.loop-i.first c.loop-i-test.true c.loop-i.invariant.3))
+    let s = c.loop-place in
+    (s.invariant.0, subst (Found f (Seen f (s.place + 1))) (sym (c.min-first.ensures ∙ ap (min s.first) (c.nearest_feed.ensures ∙ ap (nearest f) c.from.ensures))) (found_turn f s.place s.first (omega arith) s.invariant.1))
 
 pub returns : goal.returns
-returns c =
-    found_all c.args.part.now c.loop-i.i c.loop-i.first c.loop-i.invariant.0 c.loop-i-test.false c.loop-i.invariant.3
+returns c = let s = c.loop-place in c.from-2.ensures ∙ found_all c.args.part.now s.place s.first s.invariant.0 (omega arith) s.invariant.1
