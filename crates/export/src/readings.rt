@@ -11,7 +11,7 @@ use crate::words::{
 use columns::Height;
 use kinds::{
     Antenna, Factor, Fault, Heights, Instrument, Job, Local, Measurement, Network, Occupation,
-    Point, Project, Reading, Record, Sequence,
+    Point, Project, Record, Sequence,
 };
 
 fn put_job(out: &mut [i64], r: Job)
@@ -216,13 +216,13 @@ fn put_refusal(out: &mut [i64], f: Fault)
 }
 
 // Unused words are 0.
-pub(crate) fn put_reading(out: &mut [i64], r: Reading)
+pub(crate) fn put_reading(out: &mut [i64], r: Result<(Sequence, Record), Fault>)
     requires { (length out.old ≡ 32) × Told r }
     ensures { out.new ≡ read_words r }
 {
     clear(out);
     match r {
-        Reading::Refused(f) => put_refusal(out, f),
-        Reading::Values(s, what) => put_values(out, s, what),
+        Err(f) => put_refusal(out, f),
+        Ok((s, what)) => put_values(out, s, what),
     }
 }
