@@ -1,5 +1,5 @@
 -- What write is given: words taken for a sequence number and a record, in the order in which read answers them.
-use Rattle.std.specs.Prelude.{◌≡◌, Bool, false, cond, List, [], ◌∷◌, ℕ, suc, ◌+◌, get_or, ℤ, pos, negsuc, Option, Some, None}
+use Rattle.std.specs.Prelude.{◌≡◌, Bool, false, cond, List, [], ◌∷◌, ℕ, suc, ◌+◌, get_or, ℤ, pos, negsuc, Result, Ok, Err, Option, Some, None}
 use Rattle.rules.specs.Tests.{◌≤?◌, ◌=?◌}
 use Rattle.columns.specs.declared.Four.{Four}
 use Rattle.columns.specs.declared.Media.{Media}
@@ -14,7 +14,6 @@ use Rattle.kinds.specs.declared.Network.{Network}
 use Rattle.kinds.specs.declared.Local.{Local}
 use Rattle.kinds.specs.declared.Record.{Record}
 use Rattle.kinds.specs.declared.Record.TheVariants as R
-use Rattle.kinds.specs.declared.Written.{Written}
 use Rattle.kinds.specs.declared.Fault.{Fault}
 use Rattle.answers.specs.Answers.{fault_words, Small}
 
@@ -153,10 +152,10 @@ abbrev pub sequence_given : List ℤ → Option ℕ
 sequence_given ws = sequence_of (word_at ws 1)
 
 -- ---- the answer: number, record, column
-unfoldable pub written_words : Written → List ℕ
-written_words Written.Done = 0 ∷ 0 ∷ 0 ∷ []
-written_words (Written.Refused f) = fault_words f
+unfoldable pub written_words : Result (Unit {0}) Fault → List ℕ
+written_words (Ok v) = 0 ∷ 0 ∷ 0 ∷ []
+written_words (Err f) = fault_words f
 
 -- a refusal's column fits a word
-pub record Noted (w : Written) : Type 0 where
-  pub small : (f : Fault) → w ≡ Written.Refused f → Small f
+pub record Noted (w : Result (Unit {0}) Fault) : Type 0 where
+  pub small : (f : Fault) → w ≡ Err f → Small f

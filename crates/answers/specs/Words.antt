@@ -1,5 +1,5 @@
 -- What read answers: a record's values as words, in column order.
-use Rattle.std.specs.Prelude.{◌≡◌, Bool, true, List, [], ◌∷◌, ◌++◌, ℕ, ◌+◌, ◌-◌, length, replicate, set, ℤ, pos, negsuc, Option, Some, None}
+use Rattle.std.specs.Prelude.{◌≡◌, Bool, true, List, [], ◌∷◌, ◌++◌, ℕ, ◌+◌, ◌-◌, length, replicate, set, ℤ, pos, negsuc, Result, Ok, Err, Option, Some, None}
 use Rattle.rules.specs.Tests.{all, ◌≤?◌}
 use Rattle.columns.specs.declared.Four.{Four}
 use Rattle.columns.specs.declared.Media.{Media}
@@ -15,7 +15,6 @@ use Rattle.kinds.specs.declared.Local.{Local}
 use Rattle.kinds.specs.declared.Fault.{Fault}
 use Rattle.kinds.specs.declared.Record.{Record}
 use Rattle.kinds.specs.declared.Record.TheVariants as R
-use Rattle.kinds.specs.declared.Reading.{Reading}
 use Rattle.kinds.specs.Values.{kind_number}
 use Rattle.answers.specs.Answers.{Small}
 
@@ -91,9 +90,9 @@ value_words (R.Factor r) = pos r.horizontal ∷ pos r.vertical ∷ []
 unfoldable pub padded : ℕ → List ℤ → List ℤ
 padded n ws = ws ++ replicate (n - length ws) (pos 0)
 
-unfoldable pub read_words : Reading → List ℤ
-read_words (Reading.Refused f) = padded 32 (pos f.number ∷ pos f.«record» ∷ pos f.column ∷ negsuc 0 ∷ [])
-read_words (Reading.Values s r) = pos 0 ∷ pos 0 ∷ pos 0 ∷ pos (kind_number r) ∷ sequence_word s ∷ padded 27 (value_words r)
+unfoldable pub read_words : Result (Option ℕ × Record) Fault → List ℤ
+read_words (Err f) = padded 32 (pos f.number ∷ pos f.«record» ∷ pos f.column ∷ negsuc 0 ∷ [])
+read_words (Ok v) = pos 0 ∷ pos 0 ∷ pos 0 ∷ pos (kind_number v.1) ∷ sequence_word v.0 ∷ padded 27 (value_words v.1)
 
 -- the numbers of 64 bits, of which a word holds no more than its half: standard deviations
 unfoldable pub deviations_of : Record → List ℕ
@@ -116,9 +115,9 @@ unfoldable pub in_range : Record → Bool
 in_range r = all (λ n. n ≤? 999_999_999) (deviations_of r)
 
 -- a refusal's record and column fit words, and so do the standard deviations of a record
-pub record Told (x : Reading) : Type 0 where
-  pub small : (f : Fault) → x ≡ Reading.Refused f → Small f
-  pub held : (s : Option ℕ) (r : Record) → x ≡ Reading.Values s r → in_range r ≡ true
+pub record Told (x : Result (Option ℕ × Record) Fault) : Type 0 where
+  pub small : (f : Fault) → x ≡ Err f → Small f
+  pub held : (s : Option ℕ) (r : Record) → x ≡ Ok (s, r) → in_range r ≡ true
 
 -- ---- words laid over others from word i on
 unfoldable pub laid : ℕ → List ℤ → List ℤ → List ℤ

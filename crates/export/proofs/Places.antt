@@ -13,7 +13,8 @@ use Rattle.rules.specs.Fields.{Field, Verdict, ok, fault, is_ok, given, entries_
 use Rattle.rules.specs.Kinds.{kind_of, known}
 use Rattle.rules.specs.Layouts.{at, deviation, network, local, kept, layouts, layout}
 use Rattle.rules.specs.Records.{Meaning, read_line, meaning, told, meant}
-use Rattle.rules.specs.Files.{Result, accept, refuse, is_accept, line_at, begun, meanings, form_verdict}
+use Rattle.rules.specs.Files as files
+use Rattle.rules.specs.Files.{accept, refuse, is_accept, line_at, begun, meanings, form_verdict}
 use Rattle.rules.specs.References.{tally, counts}
 use Rattle.rules.specs.Chapter4.{chapter4}
 use Rattle.rules.specs.Calls.{outcome, answer, big_table, form_answer, references_outcome, references_answer, rewrite_room, rewrite_answer, Reading, values, unread, read_as, read_of}
@@ -23,11 +24,12 @@ use Rattle.rules.proofs.Truth.{both, and, to≤, of≤, to≡, cases, to_within}
 use Rattle.rules.proofs.RecordLaws.{read_line_splits, line_meant}
 use Rattle.rules.proofs.ReferenceLaws.{length-tabulate}
 use Rattle.rules.proofs.Bounds.{Bounded, answer_bounded, form_bounded, reference_refused, unread_bounds}
+use Rattle.std.specs.Prelude.{Result, Ok, Err}
 use Rattle.kinds.specs.declared.Checked.{Checked}
 use Rattle.kinds.specs.declared.Fault.{Fault}
 use Rattle.columns.specs.Types.{nat_of}
 use Rattle.kinds.specs.declared.Record.{Record}
-use Rattle.kinds.specs.declared.Reading as kinds
+use Rattle.kinds.proofs.ValueLaws.{same_values}
 use Rattle.kinds.specs.Values.{checked_of, fault_of, record_from, record_of, reading_of}
 use Rattle.kinds.proofs.TableLaws.{each_kind}
 use Rattle.padding.specs.declared.Padded.{Padded}
@@ -41,12 +43,12 @@ use Rattle.answers.specs.Words.{deviations_of, in_range, Told}
 use Rattle.std.specs.Prelude.{Option}
 
 -- ---- form, references and rewrite
-fourteen : (v : Result) (ms : List Meaning) → length (answer v ms).counts ≡ 14
+fourteen : (v : files.Result) (ms : List Meaning) → length (answer v ms).counts ≡ 14
 unfolding answer
 fourteen accept ms = unfold counts in length-tabulate (λ k. tally k ms) 14 0
 fourteen (refuse n r c) ms = refl
 
-counted : (x : Result) (ms : List Meaning) → Bounded (answer x ms) → Counted (checked_of (answer x ms))
+counted : (x : files.Result) (ms : List Meaning) → Bounded (answer x ms) → Counted (checked_of (answer x ms))
 unfolding checked_of
 counted x ms within = record {
   small = record { place = omega (arith, within.place); spot = omega (arith, within.column) };
@@ -62,7 +64,7 @@ unfolding rewrite_answer
 rewrite_counted f t o v e =
     let enough = rewrite_room f t o in rw e (counted (outcome enough f) (meanings chapter4 f) (answer_bounded enough f (meanings chapter4 f)))
 
-small_of : (x : Result) → ((n r c : ℕ) → x ≡ refuse n r c → (r ≤ 100_000) × (c ≤ 81)) → Small (fault_of x)
+small_of : (x : files.Result) → ((n r c : ℕ) → x ≡ refuse n r c → (r ≤ 100_000) × (c ≤ 81)) → Small (fault_of x)
 unfolding fault_of
 small_of accept h = record { place = omega arith; spot = omega arith }
 small_of (refuse n r c) h = let k = h n r c refl in record { place = omega (arith, k.0); spot = omega (arith, k.1) }
@@ -99,7 +101,7 @@ pull_small rs o s v e =
     record { place = omega (arith, k.0); spot = omega (arith, k.1) }
 
 -- ---- read
-told_of : (f : List ℕ) (r : ℕ) → r < 2 ^ 32 → (y : Reading) → read_of f r ≡ y → (g : Fault) → reading_of y ≡ kinds.Reading.Refused g → Small g
+told_of : (f : List ℕ) (r : ℕ) → r < 2 ^ 32 → (y : Reading) → read_of f r ≡ y → (g : Fault) → reading_of y ≡ Err g → Small g
 unfolding reading_of
 told_of f r h (values q m) e g z = let x : ◌≡◌ {A = ℕ} 0 1 = cc in absurd (omega arith)
 told_of f r h (unread n p c) e g z =
@@ -148,23 +150,23 @@ record-ranged : (m : Meaning) → meant chapter4 m ≡ true → in_range (record
 unfolding meant told known record_of layout
 record-ranged m h = ranged m.code m.values (kind_of m.code) (omega (arith, to≤ (both h).0)) (to≡ (both (both h).1).0) (both (both h).1).1
 
-held_as : (n : ℕ) (l : List ℕ) (v : Verdict) → v ≡ read_line chapter4 l → (s : Option ℕ) (w : Record) → reading_of (read_as n l v) ≡ kinds.Reading.Values s w → in_range w ≡ true
+held_as : (n : ℕ) (l : List ℕ) (v : Verdict) → v ≡ read_line chapter4 l → (s : Option ℕ) (w : Record) → reading_of (read_as n l v) ≡ Ok (s, w) → in_range w ≡ true
 unfolding read_as reading_of
 held_as n l ok e s w z =
-    let same : record_of (meaning chapter4 l) ≡ w = cc in
+    let same : record_of (meaning chapter4 l) ≡ w = (same_values z).1 in
     let reads : is_ok (read_line chapter4 l) ≡ true = rw (← e) (unfold is_ok in refl) in
     subst (λ r. in_range r ≡ true) same (record-ranged (meaning chapter4 l) (line_meant chapter4 l (both (sym (read_line_splits chapter4 l) ∙ reads)).0))
 held_as n l (fault a b) e s w z = let x : ◌≡◌ {A = ℕ} 0 1 = cc in absurd (omega arith)
 
-held_of : (f : List ℕ) (r : ℕ) (s : Option ℕ) (w : Record) → reading_of (read_of f r) ≡ kinds.Reading.Values s w → in_range w ≡ true
+held_of : (f : List ℕ) (r : ℕ) (s : Option ℕ) (w : Record) → reading_of (read_of f r) ≡ Ok (s, w) → in_range w ≡ true
 unfolding read_of
 held_of f r s w z =
     cases (within 1 99_999 r & r ≤? begun f)
     (λ h. held_as r (line_at f (r - 1)) (read_line chapter4 (line_at f (r - 1))) refl s w (rw h at z))
     (λ h. none s w (rw h at z))
   where
-    none : (s : Option ℕ) (w : Record) → reading_of (unread 13 r 0) ≡ kinds.Reading.Values s w → in_range w ≡ true
+    none : (s : Option ℕ) (w : Record) → reading_of (unread 13 r 0) ≡ Ok (s, w) → in_range w ≡ true
     none s w z = unfold reading_of in let x : ◌≡◌ {A = ℕ} 0 1 = cc in absurd (omega arith)
 
-pub read_told : (f : List ℕ) (r : ℕ) (x : kinds.Reading) → r < 2 ^ 32 → x ≡ reading_of (read_of f r) → Told x
+pub read_told : (f : List ℕ) (r : ℕ) (x : Result (Option ℕ × Record) Fault) → r < 2 ^ 32 → x ≡ reading_of (read_of f r) → Told x
 read_told f r x h e = record { small = λ g z. told_of f r h (read_of f r) refl g (sym e ∙ z); held = λ s w z. held_of f r s w (sym e ∙ z) }

@@ -7,11 +7,10 @@ use lib.IntN.{ℤ}
 use Rattle.rules.specs.Calls.{form_answer, references_answer, references_table, rewrite_answer, rewrite_table, rewrite_output, read_of, field_of, write_verdict, write_output}
 use Rattle.rules.specs.Padding.{pad_answer, pad_output}
 use Rattle.rules.specs.Pulling.{pull_answer, pull_output, pull_faults}
+use Rattle.std.specs.Prelude.{Result}
 use Rattle.kinds.specs.declared.Record.{Record}
 use Rattle.kinds.specs.declared.Fault.{Fault}
 use Rattle.kinds.specs.declared.Checked.{Checked}
-use Rattle.kinds.specs.declared.Reading.{Reading}
-use Rattle.kinds.specs.declared.Written.{Written}
 use Rattle.kinds.specs.Values.{kind_number, meaning_of, checked_of, fault_of, reading_of, written_of}
 use Rattle.padding.specs.declared.Padded.{Padded}
 use Rattle.padding.specs.Promise.{padded_of}
@@ -76,7 +75,7 @@ unfolding pulled_of
 long_pull f rs o s a h v x p y q z w e =
     record { answer = long_answer 3 a h w _ (e ∙ ap (λ (u : Pulled). fault_words u.fault) x); out = long_touched 3 a h p _ o y; faults = long_touched 3 a h q _ s z }
 
-pub long_read : (f : List ℕ) (r : ℕ) (a : List ℤ) → 32 ≤ length a → (v : Reading) → v ≡ reading_of (read_of f r) → (w : List ℤ) → w ≡ read_words v → Reads f r a (w ++ drop 32 a)
+pub long_read : (f : List ℕ) (r : ℕ) (a : List ℤ) → 32 ≤ length a → (v : Result (Option ℕ × Record) Fault) → v ≡ reading_of (read_of f r) → (w : List ℤ) → w ≡ read_words v → Reads f r a (w ++ drop 32 a)
 long_read f r a h v p w e = record { answer = read_answer a h v _ p w e }
 
 module _ (f : List ℕ) (r c : ℕ) (a : List ℕ) (h : 2 ≤ length a) (p : List ℕ) (e : p ≡ field_of f r c) where
@@ -87,7 +86,7 @@ module _ (f : List ℕ) (r c : ℕ) (a : List ℕ) (h : 2 ≤ length a) (p : Lis
   some_found z = record { answer = field_some f r c a h p e z }
 
 pub long_write : (o : List ℕ) (ws : List ℤ) (x y z a : List ℕ) → 3 ≤ length a → (s : Option ℕ) → s ≡ sequence_given ws → (r : Record) → r ≡ given ws
-    → (v : Written) → v ≡ written_of (write_verdict (length o) (kind_number r) (count_value s) (meaning_of r x y z))
+    → (v : Result (Unit {0}) Fault) → v ≡ written_of (write_verdict (length o) (kind_number r) (count_value s) (meaning_of r x y z))
     → (p : List ℕ) → p ≡ write_output (kind_number r) (count_value s) (meaning_of r x y z) o
     → (w : List ℕ) → w ≡ written_words v → Writes o ws x y z a p (w ++ drop 3 a)
 unfolding words_verdict words_output

@@ -16,6 +16,7 @@ use Rattle.rules.specs.Tests.{all, ◌≤?◌}
 use Rattle.rules.proofs.Truth.{both, to≤}
 use Rattle.columns.specs.declared.Four.{Four}
 use Rattle.columns.specs.declared.Media.{Media}
+use Rattle.std.specs.Prelude.{Result, Ok, Err}
 use Rattle.kinds.specs.declared.Two.{Two}
 use Rattle.kinds.specs.declared.Three.{Three}
 use Rattle.kinds.specs.declared.Project.{Project}
@@ -35,7 +36,6 @@ use Rattle.kinds.specs.declared.Heights.{Heights}
 use Rattle.kinds.specs.declared.Fault.{Fault}
 use Rattle.kinds.specs.declared.Record.{Record}
 use Rattle.kinds.specs.declared.Record.TheVariants as R
-use Rattle.kinds.specs.declared.Reading.{Reading}
 use Rattle.kinds.specs.Values.{kind_number}
 use Rattle.answers.specs.Words.{height_word, sequence_word, two_words, three_words, four_words, media_words, project_words, occupation_words, measurement_words, point_words, heights_first, heights_words, network_words, local_words, value_words, padded, read_words, deviations_of, in_range, Told, laid}
 use Rattle.answers.specs.Answers.{Small, answered}
@@ -239,7 +239,7 @@ module _ (what : Record) (w : List ℤ) where
   record-comment r e = rw e
 
 -- ---- the whole answer
-pub words-read : (s : Option ℕ) (r : Record) → laid 3 (pos (kind_number r) ∷ sequence_word s ∷ value_words r) (replicate 32 (pos 0)) ≡ read_words (Reading.Values s r)
+pub words-read : (s : Option ℕ) (r : Record) → laid 3 (pos (kind_number r) ∷ sequence_word s ∷ value_words r) (replicate 32 (pos 0)) ≡ read_words (Ok (s, r))
 unfolding laid read_words padded value_words project_words occupation_words measurement_words point_words heights_words heights_first network_words local_words two_words three_words four_words media_words
 words-read s (R.Job r) = refl
 words-read s (R.Title r) = refl
@@ -256,21 +256,21 @@ words-read s (R.Network r) = refl
 words-read s (R.Local r) = refl
 words-read s (R.Factor r) = refl
 
-module _ (x : Reading) (w u : List ℤ) (zeros : w ≡ replicate 32 (pos 0)) where
-  pub answer_read : (s : Option ℕ) (r : Record) → x ≡ Reading.Values s r → u ≡ laid 3 (pos (kind_number r) ∷ sequence_word s ∷ value_words r) w → u ≡ read_words x
+module _ (x : Result (Option ℕ × Record) Fault) (w u : List ℤ) (zeros : w ≡ replicate 32 (pos 0)) where
+  pub answer_read : (s : Option ℕ) (r : Record) → x ≡ Ok (s, r) → u ≡ laid 3 (pos (kind_number r) ∷ sequence_word s ∷ value_words r) w → u ≡ read_words x
   answer_read s r e q = q ∙ rw (zeros, e) (words-read s r)
 
-  pub answer_unread : (f : Fault) → x ≡ Reading.Refused f → u ≡ laid 0 (pos f.number ∷ pos f.«record» ∷ pos f.column ∷ negsuc 0 ∷ []) w → u ≡ read_words x
+  pub answer_unread : (f : Fault) → x ≡ Err f → u ≡ laid 0 (pos f.number ∷ pos f.«record» ∷ pos f.column ∷ negsuc 0 ∷ []) w → u ≡ read_words x
   unfolding laid read_words padded
   answer_unread f e q = q ∙ rw (zeros, e)
 
-pub told_small : (x : Reading) (f : Fault) → Told x → x ≡ Reading.Refused f → Small f
+pub told_small : (x : Result (Option ℕ × Record) Fault) (f : Fault) → Told x → x ≡ Err f → Small f
 told_small x f t e = t.small f e
 
-pub told_held : (x : Reading) (s : Option ℕ) (r : Record) → Told x → x ≡ Reading.Values s r → in_range r ≡ true
+pub told_held : (x : Result (Option ℕ × Record) Fault) (s : Option ℕ) (r : Record) → Told x → x ≡ Ok (s, r) → in_range r ≡ true
 told_held x s r t e = t.held s r e
 
-pub read_answer : (old : List ℤ) → 32 ≤ length old → (v w : Reading) → v ≡ w → (u : List ℤ) → u ≡ read_words v → u ++ drop 32 old ≡ answered 32 (read_words w) old
+pub read_answer : (old : List ℤ) → 32 ≤ length old → (v w : Result (Option ℕ × Record) Fault) → v ≡ w → (u : List ℤ) → u ≡ read_words v → u ++ drop 32 old ≡ answered 32 (read_words w) old
 read_answer old h v w e u q = long_answer 32 old h u (read_words w) (q ∙ ap read_words e)
 
 -- ---- clearing

@@ -3,7 +3,7 @@ ghost use Rattle.std.specs.Prelude.{◌≡◌, length};
 ghost use Rattle.answers.specs.Answers.{Small, Counted, fault_words, checked_words, padded_words};
 ghost use Rattle.answers.specs.Given.{written_words, Noted};
 
-use kinds::{Checked, Fault, Written};
+use kinds::{Checked, Fault};
 use padding::Padded;
 
 // number, record, column.
@@ -46,19 +46,12 @@ pub(crate) fn put_padded(out: &mut [u32], v: Padded)
     out[3] = v.lines;
 }
 
-pub(crate) fn put_written(out: &mut [u32], w: Written)
+pub(crate) fn put_written(out: &mut [u32], w: Result<(), Fault>)
     requires { (length out.old ≡ 3) × Noted w }
     ensures { out.new ≡ written_words w }
 {
     match w {
-        Written::Done => put_fault(
-            out,
-            Fault {
-                number: 0,
-                record: 0,
-                column: 0,
-            },
-        ),
-        Written::Refused(f) => put_fault(out, f),
+        Ok(()) => put_fault(out, Fault::new(0, 0, 0)),
+        Err(f) => put_fault(out, f),
     }
 }

@@ -10,7 +10,7 @@ use crate::words::{
 };
 use kinds::{
     Antenna, Factor, Fault, Heights, Instrument, Job, Local, Measurement, Network, Occupation,
-    Point, Project, Reading, Record,
+    Point, Project, Record,
 };
 
 fn put_job(out: &mut [i64], r: Job)
@@ -215,13 +215,13 @@ fn put_refusal(out: &mut [i64], f: Fault)
 }
 
 // Unused words are 0.
-pub(crate) fn put_reading(out: &mut [i64], r: Reading)
+pub(crate) fn put_reading(out: &mut [i64], r: Result<(Option<u32>, Record), Fault>)
     requires { (length out.old ≡ 32) × Told r }
     ensures { out.new ≡ read_words r }
 {
     clear(out);
     match r {
-        Reading::Refused(f) => put_refusal(out, f),
-        Reading::Values(s, what) => put_values(out, s, what),
+        Err(f) => put_refusal(out, f),
+        Ok((s, what)) => put_values(out, s, what),
     }
 }

@@ -15,9 +15,11 @@ use Rattle.rules.specs.Kinds.{data_codes, kind_from, starred, kind_between, kind
 use Rattle.columns.specs.Types.{nat_of, int_of, media_of, media_value, four, four_of, count_of, count_value}
 use Rattle.columns.proofs.RoundTrip.{height_same}
 use Rattle.kinds.specs.declared.Flaw.{Flaw}
+use Rattle.kinds.specs.declared.Fault.{Fault}
 use Rattle.kinds.specs.declared.Record.{Record}
 use Rattle.kinds.specs.declared.Record.TheVariants as R
 use Rattle.kinds.specs.Values.{text_of, two, two_text, three, three_text, kind_number, code_of, values_of, meaning_of, char_of, record_from, record_of, judged_of}
+use Rattle.std.specs.Prelude.{Option, Some, None}
 use Rattle.std.specs.Prelude.{Option, Some, None}
 
 pub sequence_back : (s : Option ℕ) → count_of (count_value s) ≡ s
@@ -32,6 +34,12 @@ flaw n c = record { number = n; column = c }
 -- what a `?` hands on
 pub handed_on : {T E : Type 0} {r : Result T E} {e : E} → IsErrAnd r (λ y. y ≡ e) → r ≡ Err e
 handed_on {r} h = let p = err_from_is_err_and r h in rw (p.1, p.2)
+
+-- values that are told alike are the same
+pub same_values : {s q : Option ℕ} {w m : Record} → ◌≡◌ {A = Result (Option ℕ × Record) Fault} (Ok (s, w)) (Ok (q, m)) → (s ≡ q) × (w ≡ m)
+same_values {s} {q} {w} {m} e =
+    let p : (s, w) ≡ (q, m) = cc in
+    (ap (λ (x : Option ℕ × Record). x.0) p, ap (λ (x : Option ℕ × Record). x.1) p)
 
 -- what a fault mapped by `map_err` was
 pub mapped_ok : {T E D : Type 0} (r : Result T E) {m : Result T D} (P : E → D → Type 0) {x : T} → MatchResult r (λ y. m ≡ Ok y) (λ e. IsErrAnd m (P e)) → m ≡ Ok x → r ≡ Ok x

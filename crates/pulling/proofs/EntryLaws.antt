@@ -6,6 +6,7 @@ use Prim.Native.Nat.{ℕ, ◌-◌, ◌*◌, ◌≤◌}
 use native.Mathlib.Omega.{arith}
 use lib.ListN.{length, take, drop, get_or, set, replicate, drop_of_length-le}
 use lib.Seq.{length-take-le, drop-cons}
+use Rattle.std.specs.Prelude.{Result, Ok, Err}
 use Rattle.rules.specs.Tests.{all, ◌&◌, ◌≤?◌, within}
 use Rattle.rules.specs.Fields.{anything, Verdict, ok, fault, is_ok}
 use Rattle.rules.specs.Layouts.{layout}
@@ -21,11 +22,12 @@ use Rattle.rules.proofs.RecordLaws.{read_line_splits, line_long}
 use Rattle.rules.proofs.FileLaws.{is_line, lines_join, length-take_most}
 use Rattle.rules.proofs.Bounds.{read-refused}
 use Rattle.kinds.specs.declared.Expect.{Expect}
-use Rattle.kinds.specs.declared.Judged.{Judged}
+use Rattle.kinds.specs.declared.Flaw.{Flaw}
 use Rattle.kinds.specs.Values.{judged_of, expect_of}
 use Rattle.kinds.proofs.ValueLaws.{good_is, bad_is}
 use Rattle.quick.specs.Rest.{Fit}
-use Rattle.pulling.specs.Entries.{number_of, Entry}
+use Rattle.judging.proofs.RowLaws.{ok_good}
+use Rattle.pulling.specs.Entries.{Entry}
 
 -- ---- the number of a line
 module _ (l : List ℕ) where
@@ -36,25 +38,9 @@ module _ (l : List ℕ) where
       simp (is_ok_⨾, is_ok_check)
       (and f.fine (and (of≤ (omega (arith, e, f.high))) (and f.number (rw (← e) f.fields))))
 
-  good-zero : is_ok (read_line chapter4 l) ≡ true → 0 ≡ number_of (read_line chapter4 l)
-  good-zero = by (read_line chapter4 l)
-    where
-      by : (v : Verdict) → is_ok v ≡ true → 0 ≡ number_of v
-      by ok h = unfold number_of in refl
-      by (fault n c) h = let y : false ≡ true = unfold is_ok in h in cc
-
-  pub quick_zero : (k : ℕ) → k ≡ kind_of (code_at l) → (t : Bool) → (t ≡ true → Fit l k (expect_of Expect.Anything)) → t ≡ true → 0 ≡ number_of (read_line chapter4 l)
+  pub quick_good : (k : ℕ) → k ≡ kind_of (code_at l) → (t : Bool) → (t ≡ true → Fit l k (expect_of Expect.Anything)) → t ≡ true → Ok tt ≡ judged_of (read_line chapter4 l)
   unfolding expect_of
-  quick_zero k e t g h = good-zero (fit_reads k e (g h))
-
-  module _ (j : Judged) (p : j ≡ judged_of (read_line chapter4 l)) where
-    pub judged_zero : j ≡ Judged.Good → 0 ≡ number_of (read_line chapter4 l)
-    unfolding number_of
-    judged_zero q = rw (good_is (read_line chapter4 l) (sym p ∙ q))
-
-    pub judged_number : (n c : ℕ) → j ≡ Judged.Bad n c → n ≡ number_of (read_line chapter4 l)
-    unfolding number_of
-    judged_number n c q = rw (bad_is (read_line chapter4 l) n c (sym p ∙ q))
+  quick_good k e t g h = ok_good (read_line chapter4 l) (fit_reads k e (g h))
 
 -- ---- 80 blanks laid into a line, and a line feed behind them
 pub blanks-laid : (o : List ℕ) → length o ≡ 81 → (y : List ℕ) → y ≡ replicate (length (take 80 (drop 0 o))) 32
@@ -67,32 +53,28 @@ blanks-laid o h y e =
     rw (blanks, last)
 
 -- ---- the line that is left
-module _ (l : List ℕ) (r n : ℕ) (e : n ≡ number_of (read_line chapter4 l)) where
-  reads : n ≡ 0 → read_line chapter4 l ≡ ok
-  reads z = by (read_line chapter4 l) refl (sym e ∙ z)
-    where
-      by : (v : Verdict) → read_line chapter4 l ≡ v → number_of v ≡ 0 → v ≡ ok
-      by ok q h = refl
-      by (fault m c) q h = let z : m ≡ 0 = unfold number_of in h in absurd (omega (arith, z, read-refused l m c q))
+module _ (l : List ℕ) (r : ℕ) (j : Result (Unit {0}) Flaw) (e : j ≡ judged_of (read_line chapter4 l)) where
+  reads : j ≡ Ok tt → read_line chapter4 l ≡ ok
+  reads z = good_is (read_line chapter4 l) (sym e ∙ z)
 
-  passes : n ≡ 0 → is_ok (read_line chapter4 l) ≡ true
+  passes : j ≡ Ok tt → is_ok (read_line chapter4 l) ≡ true
   unfolding is_ok
   passes z = ap is_ok (reads z)
 
-  formed : n ≡ 0 → formed_line chapter4 l ≡ true
+  formed : j ≡ Ok tt → formed_line chapter4 l ≡ true
   formed z = (both (sym (read_line_splits chapter4 l) ∙ passes z)).0
 
   module _ (most : length l ≤ 81) where
     -- a good record is a file's one line
-    one_line : n ≡ 0 → lines l ≡ l ∷ []
+    one_line : j ≡ Ok tt → lines l ≡ l ∷ []
     unfolding join all is_line
     one_line z = let long : length l ≡ 81 = omega (arith, most, line_long chapter4 l (formed z)) in ap lines (sym (append-nil l)) ∙ lines_join (l ∷ []) (and (of≡ long) refl)
 
-    pub pull_formed : n ≡ 0 → r ≤ 99_999 → formed_lines chapter4 r (lines l) ≡ true
+    pub pull_formed : j ≡ Ok tt → r ≤ 99_999 → formed_lines chapter4 r (lines l) ≡ true
     unfolding formed_lines
     pull_formed z h = rw (one_line z) (and (and (of≤ h) (formed z)) refl)
 
-    pub pull_good : n ≡ 0 → (o : List ℕ) → length o ≡ 81 → (p : List ℕ) → p ≡ join (styles chapter4 r (meanings chapter4 l)) ++ drop (length l) o
+    pub pull_good : j ≡ Ok tt → (o : List ℕ) → length o ≡ 81 → (p : List ℕ) → p ≡ join (styles chapter4 r (meanings chapter4 l)) ++ drop (length l) o
         → Entry r (read_as r l (read_line chapter4 l)) 0 p
     unfolding read_as line_for fault_for
     pull_good z o room p q = rw (reads z) record { fault = refl; line = q ∙ ap₂ ◌++◌ styled none ∙ append-nil (style chapter4 r (meaning chapter4 l)) }
@@ -103,13 +85,9 @@ module _ (l : List ℕ) (r n : ℕ) (e : n ≡ number_of (read_line chapter4 l))
         none : drop (length l) o ≡ []
         none = drop_of_length-le o {i = length l} (omega (arith, room, line_long chapter4 l (formed z)))
 
-  pub pull_bad : (n ≡ 0 → ⊥) → (p : List ℕ) → p ≡ blank_line → Entry r (read_as r l (read_line chapter4 l)) n p
-  unfolding read_as line_for fault_for number_of
-  pull_bad z p q = by (read_line chapter4 l) e
-    where
-      by : (v : Verdict) → n ≡ number_of v → Entry r (read_as r l v) n p
-      by ok h = absurd (z h)
-      by (fault m c) h = record { fault = h; line = q }
+  pub pull_bad : (w : Flaw) → j ≡ Err w → (p : List ℕ) → p ≡ blank_line → Entry r (read_as r l (read_line chapter4 l)) w.number p
+  unfolding read_as line_for fault_for
+  pull_bad w z p q = rw (bad_is (read_line chapter4 l) w (sym e ∙ z)) record { fault = refl; line = q }
 
 -- ---- the record that an entry asks for
 module _ (f : List ℕ) (r : ℕ) (t : Bool) (e : t ≡ within 1 99_999 r & r ≤? begun f) where

@@ -1,13 +1,7 @@
 -- What the functions below pull promise: of one record by what read gives of it, and of the entries of a list.
 use Rattle.std.specs.Prelude.{◌≡◌, List, ◌++◌, ℕ, ◌*◌, length, drop}
-use Rattle.rules.specs.Fields.{Verdict, ok, fault}
 use Rattle.rules.specs.Calls.{Reading}
 use Rattle.rules.specs.Pulling.{line_for, fault_for, pulled_lines, pulled_faults}
-
--- the number of a verdict on a record, 0 for a good one
-unfoldable pub number_of : Verdict → ℕ
-number_of ok = 0
-number_of (fault n c) = n
 
 -- of record r, which read gives as x: the fault number n and the line l
 pub record Entry (r : ℕ) (x : Reading) (n : ℕ) (l : List ℕ) : Type 0 where

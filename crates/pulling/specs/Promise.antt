@@ -1,19 +1,21 @@
 -- What pull promises of its answer v, the output p that it leaves of o and the fault list t that it leaves of s, for a file f and a list rs of record numbers; what
 -- is refused, and what stands for each entry.
-use Rattle.std.specs.Prelude.{◌≡◌, ◌⊎◌, ◌↔◌, List, [], ◌∷◌, ℕ, ◌*◌, ◌<◌, length, drop, get_or}
+use Rattle.std.specs.Prelude.{◌≡◌, ◌⊎◌, ◌↔◌, List, [], ◌∷◌, ℕ, ◌*◌, ◌<◌, length, drop, get_or, Result, Ok, Err, Option}
 use Rattle.rules.specs.Members.{◌∈◌}
 use Rattle.rules.specs.Items.{Value}
 use Rattle.rules.specs.Records.{Meaning, style}
-use Rattle.rules.specs.Files.{Result, line_at}
+use Rattle.rules.specs.Files.{line_at}
+use Rattle.rules.specs.Files as files
 use Rattle.rules.specs.Chapter4.{chapter4}
 use Rattle.rules.specs.Calls.{values, unread, read_of}
 use Rattle.rules.specs.Pulling.{blank_line, pull_answer, pull_output, pull_faults}
-use Rattle.kinds.specs.declared.Reading.{Reading}
+use Rattle.kinds.specs.declared.Fault.{Fault}
+use Rattle.kinds.specs.declared.Record.{Record}
 use Rattle.kinds.specs.Values.{fault_of}
 use Rattle.reading.specs.Promise.{PromisedReading}
 use Rattle.pulling.specs.declared.Pulled.{Pulled}
 
-unfoldable pub pulled_of : Result → Pulled
+unfoldable pub pulled_of : files.Result → Pulled
 pulled_of v = record { fault = fault_of v }
 
 -- the answer with a number
@@ -33,15 +35,15 @@ pub record Refusing (rs o s : List ℕ) (v : Pulled) (p t : List ℕ) : Type 0 w
   pub untouched : v.fault.number ≡ 1 → (p ≡ o) × (t ≡ s)
 
 -- the number that read's answer names, 0 for values
-unfoldable pub number_in : Reading → ℕ
-number_in (Reading.Values s w) = 0
-number_in (Reading.Refused g) = g.number
+unfoldable pub number_in : Result (Option ℕ × Record) Fault → ℕ
+number_in (Ok v) = 0
+number_in (Err g) = g.number
 
 -- what stands for entry i, which asks for record r: in house style or blank, "each entry's fault is as in read"
 pub record Stands (f p t : List ℕ) (i r : ℕ) : Type 0 where
   pub good : (q : Value) (m : Meaning) → read_of f r ≡ values q m → (line_at p i ≡ style chapter4 r m) × (get_or t i 0 ≡ 0)
   pub bad : (n a c : ℕ) → read_of f r ≡ unread n a c → (line_at p i ≡ blank_line) × (get_or t i 0 ≡ n)
-  pub as_read : (x : Reading) → PromisedReading f r x → get_or t i 0 ≡ number_in x
+  pub as_read : (x : Result (Option ℕ × Record) Fault) → PromisedReading f r x → get_or t i 0 ≡ number_in x
   pub shows : get_or t i 0 ∈ (0 ∷ 3 ∷ 4 ∷ 5 ∷ 6 ∷ 9 ∷ 10 ∷ 13 ∷ [])
   pub blank : (line_at p i ≡ blank_line) ↔ (get_or t i 0 ≡ 0 → ⊥)
 

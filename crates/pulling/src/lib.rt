@@ -8,12 +8,13 @@ ghost use Rattle.rules.specs.Calls.{read_as, read_of};
 ghost use Rattle.rules.specs.Pulling.{blank_line};
 ghost use Rattle.quick.specs.Rows.{class_table};
 ghost use Rattle.pulling.specs.Promise.{answering, Promised};
-ghost use Rattle.pulling.specs.Entries.{number_of, Entry, Entries};
+ghost use Rattle.kinds.specs.Values.{judged_of};
+ghost use Rattle.pulling.specs.Entries.{Entry, Entries};
 
 use columns::writers::put_blank;
 use judging::codes::kind_at;
 use judging::lines::judge_alone;
-use kinds::{Expect, Fault, Judged};
+use kinds::{Expect, Fault, Flaw};
 use quick::fits;
 use quick::tables::CLASSES;
 use reading::is_there;
@@ -26,18 +27,15 @@ pub struct Pulled {
     pub fault: Fault,
 }
 
-// The fault number of a record by itself, 0 for a good one. Hardly a record has a fault, so each is first tested as a whole.
-fn fault_in(line: &[u8], classes: &[[[u8; 80]; 5]; 14]) -> u32
+// The fault of a record by itself. Hardly a record has one, so each is first tested as a whole.
+fn fault_in(line: &[u8], classes: &[[[u8; 80]; 5]; 14]) -> Result<(), Flaw>
     requires { classes.now ≡ class_table }
-    ensures { result ≡ number_of (read_line chapter4 line.now) }
+    ensures { result ≡ judged_of (read_line chapter4 line.now) }
 {
     if fits(line, kind_at(line), Expect::Anything, classes) {
-        return 0;
+        return Ok(());
     }
-    match judge_alone(line) {
-        Judged::Good => 0,
-        Judged::Bad(n, c) => n,
-    }
+    judge_alone(line)
 }
 
 // 80 blanks and a line feed.
@@ -54,10 +52,9 @@ fn pull_line(line: &[u8], number: u32, classes: &[[[u8; 80]; 5]; 14], out: &mut 
     requires { (length line.now ≤ 81) × (1 ≤ number) × (number ≤ 99_999) × (classes.now ≡ class_table) × (length out.old ≡ 81) }
     ensures { Entry number (read_as number line.now (read_line chapter4 line.now)) result out.new }
 {
-    let fault = fault_in(line, classes);
-    if fault != 0 {
+    if let Err(flaw) = fault_in(line, classes) {
         lay_blanks(out);
-        return fault;
+        return flaw.number;
     }
     style_lines(line, number, out);
     0
@@ -88,12 +85,10 @@ fn pull_entries(
     ensures { Entries file.now records.now out.old faults.old out.new faults.new }
 {
     let n = records.len();
-    let mut i: usize = 0;
-    while i < n {
+    for i in 0..n {
         let a = 81 * i;
         let e = a + 81;
         faults[i] = pull_record(file, records[i], classes, &mut out[a..e]);
-        i += 1;
     }
 }
 

@@ -20,13 +20,11 @@ pub fn style_lines(file: &[u8], first: u32, out: &mut [u8])
     ensures { out.new ≡ join (styles chapter4 first (meanings chapter4 file.now)) ++ drop (length file.now) out.old }
 {
     let n = count_begun(file);
-    let mut i: usize = 0;
-    while i < n {
+    for i in 0..n {
         let l = line(file, i);
         let a = 81 * i;
         let e = a + 81;
         restyle(l, kind_at(l), 10 * (first + i as u32), &mut out[a..e]);
-        i += 1;
     }
 }
 

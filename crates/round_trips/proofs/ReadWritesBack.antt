@@ -6,6 +6,7 @@ use Prim.Native.Nat.{ℕ, ◌-◌, ◌≤◌}
 use native.Mathlib.Omega.{arith}
 use lib.ListN.{length, get_or, take, drop}
 use lib.IntN.{pos, negsuc}
+use Rattle.std.specs.Prelude.{Result, Ok, Err}
 use Rattle.rules.specs.Tests.{◌&◌, ◌≤?◌, within}
 use Rattle.rules.specs.Items.{Value, gap, missing, num, text, label, value_of, fits, on_number}
 use Rattle.rules.specs.Fields.{Verdict, ok, fault, check, is_ok}
@@ -21,9 +22,9 @@ use Rattle.rules.proofs.FieldLaws.{is_ok_⨾, is_ok_check}
 use Rattle.rules.proofs.RecordLaws.{read_line_splits, line_meant, line_numbered}
 use Rattle.rules.proofs.RecordLaws as laws
 use Rattle.kinds.specs.declared.Record.{Record}
-use Rattle.kinds.specs.declared.Reading.{Reading}
-use Rattle.kinds.specs.declared.Written.{Written}
+use Rattle.kinds.specs.declared.Fault.{Fault}
 use Rattle.kinds.specs.Values.{kind_number, record_from, record_of, meaning_of, reading_of, written_of}
+use Rattle.kinds.proofs.ValueLaws.{same_values}
 use Rattle.kinds.proofs.TableLaws.{each_kind}
 use Rattle.reading.specs.Promise.{PromisedReading, PromisedPart}
 use Rattle.writing.specs.Promise.{Promised}
@@ -55,27 +56,27 @@ module _ (s : Option ℕ) (w : Record) where
     pub number : s ≡ count_of (value_of sequence (take 6 l))
     pub values : w ≡ record_of (meaning chapter4 l)
 
-  taken_as_lem : (n : ℕ) (l : List ℕ) (v : Verdict) → Reading.Values s w ≡ reading_of (read_as n l v) → Taken l v
+  taken_as_lem : (n : ℕ) (l : List ℕ) (v : Verdict) → Ok (s, w) ≡ reading_of (read_as n l v) → Taken l v
   unfolding read_as reading_of is_ok
-  taken_as_lem n l ok e = record { reads = refl; number = cc; values = cc }
+  taken_as_lem n l ok e = let p = same_values e in record { reads = refl; number = p.0; values = p.1 }
   taken_as_lem n l (fault a b) e = record { reads = cc; number = cc; values = cc }
 
-  begun_there : (file : List ℕ) (n : ℕ) → Reading.Values s w ≡ reading_of (read_of file n) → within 1 99_999 n & n ≤? begun file ≡ true
+  begun_there : (file : List ℕ) (n : ℕ) → Ok (s, w) ≡ reading_of (read_of file n) → within 1 99_999 n & n ≤? begun file ≡ true
   unfolding read_of reading_of
   begun_there file n e =
       cases (within 1 99_999 n & n ≤? begun file)
       (λ h. h)
-      (λ h. let clash : Reading.Values s w ≡ Reading.Refused record { number = 13; «record» = n; column = 0 } = e ∙ rw h refl in cc)
+      (λ h. let clash : Ok (s, w) ≡ Err record { number = 13; «record» = n; column = 0 } = e ∙ rw h refl in cc)
 
-  taken : (file : List ℕ) (n : ℕ) → Reading.Values s w ≡ reading_of (read_of file n) → Taken (line_at file (n - 1)) (read_line chapter4 (line_at file (n - 1)))
+  taken : (file : List ℕ) (n : ℕ) → Ok (s, w) ≡ reading_of (read_of file n) → Taken (line_at file (n - 1)) (read_line chapter4 (line_at file (n - 1)))
   unfolding read_of
   taken file n e = taken_as_lem n (line_at file (n - 1)) (read_line chapter4 (line_at file (n - 1))) (e ∙ rw (begun_there file n e) refl)
 
-module _ (file : List ℕ) (n : ℕ) (s : Option ℕ) (w : Record) (was_read : PromisedReading file n (Reading.Values s w)) where
+module _ (file : List ℕ) (n : ℕ) (s : Option ℕ) (w : Record) (was_read : PromisedReading file n (Ok (s, w))) where
   abbrev line : List ℕ
   line = line_at file (n - 1)
 
-  promised : Reading.Values s w ≡ reading_of (read_of file n)
+  promised : Ok (s, w) ≡ reading_of (read_of file n)
   promised = was_read.answered
 
   reads : is_ok (read_line chapter4 line) ≡ true
@@ -114,13 +115,13 @@ module _ (file : List ℕ) (n : ℕ) (s : Option ℕ) (w : Record) (was_read : P
         (is_ok_⨾ (check (81 ≤? length out) 1 0) (judge_given chapter4 (kind_of (code_at line)) (value_of sequence (take 6 line)) (meaning chapter4 line))
         ∙ and (is_ok_check (81 ≤? length out) 1 0 ∙ of≤ room) (laws.read_writes_back chapter4 line reads))
 
-    is_done : (v : Verdict) → is_ok v ≡ true → written_of v ≡ Written.Done
+    is_done : (v : Verdict) → is_ok v ≡ true → written_of v ≡ Ok tt
     unfolding is_ok written_of
     is_done ok h = refl
     is_done (fault a b) h = cc
 
-    is_written : (out : List ℕ) → 81 ≤ length out → (r : Written) (left : List ℕ) → Promised s w x y z out r left
-        → (r ≡ Written.Done) × (left ≡ line_of chapter4 (value_of sequence (take 6 line)) (meaning chapter4 line) ++ drop 81 out)
+    is_written : (out : List ℕ) → 81 ≤ length out → (r : Result (Unit {0}) Fault) (left : List ℕ) → Promised s w x y z out r left
+        → (r ≡ Ok tt) × (left ≡ line_of chapter4 (value_of sequence (take 6 line)) (meaning chapter4 line) ++ drop 81 out)
     unfolding write_output
     is_written out room r left p =
         (p.answer ∙ is_done _ (is_taken out room), p.output ∙ rw (is_taken out room) (rw (same_number, same_meaning) refl))
@@ -130,7 +131,7 @@ module _ (file : List ℕ) (n : ℕ) (s : Option ℕ) (w : Record) (was_read : P
       → PromisedPart file n (get_or (text_columns w) 0 0) block start x b i
       → PromisedPart file n (get_or (text_columns w) 1 0) block start y c j
       → PromisedPart file n (get_or (text_columns w) 2 0) block start z d k
-      → (out : List ℕ) → 81 ≤ length out → (r : Written) (left : List ℕ) → Promised s w x y z out r left
-      → (r ≡ Written.Done) × (left ≡ line_of chapter4 (value_of sequence (take 6 line)) (meaning chapter4 line) ++ drop 81 out)
+      → (out : List ℕ) → 81 ≤ length out → (r : Result (Unit {0}) Fault) (left : List ℕ) → Promised s w x y z out r left
+      → (r ≡ Ok tt) × (left ≡ line_of chapter4 (value_of sequence (take 6 line)) (meaning chapter4 line) ++ drop 81 out)
   unfolding text_at
   read_writes_back block start x y z b c d i j k first second third = is_written x y z first.contents second.contents third.contents

@@ -6,6 +6,7 @@ use Prim.Native.Nat.{ℕ, ◌-◌, ◌<◌}
 use native.Mathlib.Omega.{arith}
 use lib.Seq.{take_all, get_or-take}
 use lib.ListN.{length, take, get_or}
+use Rattle.std.specs.Prelude.{Result, Ok, Err}
 use Rattle.rules.specs.Tests.{◌&◌, ◌≤?◌, within}
 use Rattle.rules.specs.Items.{gap, value_of}
 use Rattle.rules.specs.Fields.{Verdict, ok, fault, is_ok}
@@ -17,8 +18,7 @@ use Rattle.rules.specs.Calls.{read_as, read_of, field_of}
 use Rattle.rules.specs.Chapter4.{chapter4}
 use Rattle.kinds.specs.declared.Record.{Record}
 use Rattle.kinds.specs.declared.Record.TheVariants as R
-use Rattle.kinds.specs.declared.Reading.{Reading}
-use Rattle.kinds.specs.declared.Written.{Written}
+use Rattle.kinds.specs.declared.Fault.{Fault}
 use Rattle.kinds.specs.Values.{text_of, kind_number, values_of, meaning_of, record_of, reading_of}
 use Rattle.reading.specs.Promise.{PromisedReading, PromisedPart}
 use Rattle.writing.specs.Promise.{Promised}
@@ -30,7 +30,7 @@ use Rattle.std.specs.Prelude.{Option}
 use Rattle.columns.specs.Types.{count_of}
 
 read_ok : (n : ℕ) (l : List ℕ) (v : Verdict) → is_ok v ≡ true
-    → reading_of (read_as n l v) ≡ Reading.Values (count_of (value_of sequence (take 6 l))) (record_of (meaning chapter4 l))
+    → reading_of (read_as n l v) ≡ Ok (count_of (value_of sequence (take 6 l)), record_of (meaning chapter4 l))
 unfolding read_as reading_of is_ok
 read_ok n l ok h = refl
 read_ok n l (fault a b) h = cc
@@ -54,11 +54,11 @@ texts-given (R.Network r) a b c = refl
 texts-given (R.Local r) a b c = refl
 texts-given (R.Factor r) a b c = refl
 
-module _ (s : Option ℕ) (w : Record) (a b c out : List ℕ) {left : List ℕ} (p : Promised s w a b c out Written.Done left) where
+module _ (s : Option ℕ) (w : Record) (a b c out : List ℕ) {left : List ℕ} (p : Promised s w a b c out (Ok tt) left) where
   -- wherever the 81 bytes that write left stand as record n of a file
   module _ (file : List ℕ) (n : ℕ) (there : within 1 99_999 n & n ≤? begun file ≡ true) (e : line_at file (n - 1) ≡ take 81 left) where
     -- every answer that read's promise allows has the values that were written
-    pub written_reads_back : (r : Reading) → PromisedReading file n r → r ≡ Reading.Values s w
+    pub written_reads_back : (r : Result (Option ℕ × Record) Fault) → PromisedReading file n r → r ≡ Ok (s, w)
     unfolding read_of
     written_reads_back r promised =
         promised.answered ∙ rw (there, e) (read_ok n (take 81 left) (read_line chapter4 (take 81 left)) (done_reads_back s w a b c out p).reads
@@ -104,7 +104,7 @@ module _ (s : Option ℕ) (w : Record) (a b c out : List ℕ) {left : List ℕ} 
   unfolding line_at
   is_line_lem = let e : length (take 81 left) ≡ 81 = (done_reads_back s w a b c out p).eighty_one in take_all 81 (take 81 left) (omega (arith, e))
 
-  pub written_alone : (r : Reading) → PromisedReading (take 81 left) 1 r → r ≡ Reading.Values s w
+  pub written_alone : (r : Result (Option ℕ × Record) Fault) → PromisedReading (take 81 left) 1 r → r ≡ Ok (s, w)
   written_alone = written_reads_back (take 81 left) 1 is_there is_line_lem
 
   pub texts_alone : (i : ℕ) → i < length (text_columns w) → {B : Type 0} (block : B) (start : ℕ) (x : List ℕ) (d : B) (at : ℕ)

@@ -7,6 +7,7 @@ use Prim.Native.Nat.{ℕ, ◌+◌, ◌-◌, ◌≤◌, ◌<◌}
 use native.Mathlib.Omega.{arith}
 use lib.ListN.{get_or}
 use lib.Dec.{eqb}
+use Rattle.std.specs.Prelude.{Result, Ok, Err}
 use Rattle.rules.specs.Tests.{◌&◌, ◌≤?◌, ◌=?◌}
 use Rattle.rules.specs.Fields.{Verdict, ok, fault, check, ◌⨾◌, Check, run}
 use Rattle.rules.specs.Records.{Meaning, code_at, meaning, formed_line, meant}
@@ -20,9 +21,10 @@ use Rattle.rules.proofs.RecordLaws.{line_meant}
 use Rattle.rules.proofs.FileLaws.{lines_more, lines_none}
 use Rattle.rules.proofs.ReferenceLaws.{stations_in, family_in, word_in}
 use Rattle.rules.proofs.TableLaws.{own_range, named_range}
-use Rattle.kinds.specs.declared.Judged.{Judged}
+use Rattle.kinds.specs.declared.Flaw.{Flaw}
+use Rattle.kinds.specs.declared.Fault.{Fault}
 use Rattle.kinds.specs.Values.{judged_of, fault_of}
-use Rattle.kinds.proofs.ValueLaws.{good_is, bad_is}
+use Rattle.kinds.proofs.ValueLaws.{flaw, good_is, bad_is}
 use Rattle.reading.specs.Values.{nat_in}
 use Rattle.walk.specs.Words.{slot_in}
 use Rattle.walk.specs.References.{first_in, undefined_in, named_by, word_check, named_in, ref_in, Referable}
@@ -30,13 +32,13 @@ use Rattle.walk.proofs.WordLaws.{slot_family}
 use Rattle.walk.proofs.NumberLaws.{own_number, named-number, its_kind}
 
 module _ (t : List ℕ) (r : ℕ) (l : List ℕ) (n : ℕ) (p : n ≡ nat_in 11 4 l) (i : ℕ) (q : i ≡ slot_in *80* n) (w : ℕ) (e : w ≡ get_or t i 0) (z : ℕ) (u : z ≡ w) where
-  pub first_good : z ≡ r → Judged.Good ≡ judged_of (first_in t r l)
+  pub first_good : z ≡ r → Ok tt ≡ judged_of (first_in t r l)
   unfolding first_in check judged_of
   first_good h = rw (← p, ← q, ← e, ← u, of≡ h)
 
-  pub first_bad_lem : (z ≡ r → ⊥) → Judged.Bad 11 11 ≡ judged_of (first_in t r l)
+  pub first_bad_lem : (z ≡ r → ⊥) → {x : Flaw} → x ≡ flaw 11 11 → Err x ≡ judged_of (first_in t r l)
   unfolding first_in check judged_of
-  first_bad_lem h = rw (← p, ← q, ← e, ← u, of≢ h)
+  first_bad_lem h y = rw (y, ← p, ← q, ← e, ← u, of≢ h)
 
 pub undefined_is : (t : List ℕ) (k n i : ℕ) → i ≡ slot_in k n → (w : ℕ) → w ≡ get_or t i 0 → eqb w 0 ≡ undefined_in t k n
 unfolding undefined_in ◌=?◌
@@ -44,65 +46,65 @@ undefined_is t k n i e w z = rw (z, e)
 
 -- the station at column 11, which a *25*, a *91* and a *92* name first
 module _ (t l : List ℕ) (n : ℕ) (p : n ≡ nat_in 11 4 l) (a : Bool) (e : a ≡ undefined_in t *80* n) where
-  pub occupied_station : a ≡ true → Judged.Bad 12 11 ≡ judged_of (named_in t *25* l)
+  pub occupied_station : a ≡ true → {x : Flaw} → x ≡ flaw 12 11 → Err x ≡ judged_of (named_in t *25* l)
   unfolding named_in named_by run check judged_of ◌⨾◌ ◌=?◌
-  occupied_station h = rw (← p, ← e, h)
+  occupied_station h y = rw (y, ← p, ← e, h)
 
-  pub network_bad : a ≡ true → Judged.Bad 12 11 ≡ judged_of (named_in t *91* l)
+  pub network_bad : a ≡ true → {x : Flaw} → x ≡ flaw 12 11 → Err x ≡ judged_of (named_in t *91* l)
   unfolding named_in named_by run check judged_of ◌⨾◌ ◌=?◌
-  network_bad h = rw (← p, ← e, h)
+  network_bad h y = rw (y, ← p, ← e, h)
 
-  pub standpoint_bad : a ≡ true → Judged.Bad 12 11 ≡ judged_of (named_in t *92* l)
+  pub standpoint_bad : a ≡ true → {x : Flaw} → x ≡ flaw 12 11 → Err x ≡ judged_of (named_in t *92* l)
   unfolding named_in named_by run check judged_of ◌⨾◌ ◌=?◌
-  standpoint_bad h = rw (← p, ← e, h)
+  standpoint_bad h y = rw (y, ← p, ← e, h)
 
   module _ (h : a ≡ false) where
-    pub network-good : Judged.Good ≡ judged_of (named_in t *91* l)
+    pub network-good : Ok tt ≡ judged_of (named_in t *91* l)
     unfolding named_in named_by run check judged_of ◌⨾◌ ◌=?◌
     network-good = rw (← p, ← e, h)
 
     module _ (n' : ℕ) (p' : n' ≡ nat_in 17 4 l) (a' : Bool) (e' : a' ≡ undefined_in t *80* n') where
-      pub forepoint_bad : a' ≡ true → Judged.Bad 12 17 ≡ judged_of (named_in t *92* l)
+      pub forepoint_bad : a' ≡ true → {x : Flaw} → x ≡ flaw 12 17 → Err x ≡ judged_of (named_in t *92* l)
       unfolding named_in named_by run check judged_of ◌⨾◌ ◌=?◌
-      forepoint_bad h' = rw (← p, ← e, h, ← p', ← e', h')
+      forepoint_bad h' y = rw (y, ← p, ← e, h, ← p', ← e', h')
 
-      pub local-good : a' ≡ false → Judged.Good ≡ judged_of (named_in t *92* l)
+      pub local-good : a' ≡ false → Ok tt ≡ judged_of (named_in t *92* l)
       unfolding named_in named_by run check judged_of ◌⨾◌ ◌=?◌
       local-good h' = rw (← p, ← e, h, ← p', ← e', h')
 
     module _ (n' : ℕ) (p' : n' ≡ nat_in 28 3 l) (a' : Bool) (e' : a' ≡ undefined_in t *70* n') where
-      pub occupied_instrument : a' ≡ true → Judged.Bad 12 28 ≡ judged_of (named_in t *25* l)
+      pub occupied_instrument : a' ≡ true → {x : Flaw} → x ≡ flaw 12 28 → Err x ≡ judged_of (named_in t *25* l)
       unfolding named_in named_by run check judged_of ◌⨾◌ ◌=?◌
-      occupied_instrument h' = rw (← p, ← e, h, ← p', ← e', h')
+      occupied_instrument h' y = rw (y, ← p, ← e, h, ← p', ← e', h')
 
       module _ (h' : a' ≡ false) (m : ℕ) (pm : m ≡ nat_in 33 3 l) (b : Bool) (em : b ≡ undefined_in t *72* m) where
-        pub occupied_antenna : b ≡ true → Judged.Bad 12 33 ≡ judged_of (named_in t *25* l)
+        pub occupied_antenna : b ≡ true → {x : Flaw} → x ≡ flaw 12 33 → Err x ≡ judged_of (named_in t *25* l)
         unfolding named_in named_by run check judged_of ◌⨾◌ ◌=?◌
-        occupied_antenna z = rw (← p, ← e, h, ← p', ← e', h', ← pm, ← em, z)
+        occupied_antenna z y = rw (y, ← p, ← e, h, ← p', ← e', h', ← pm, ← em, z)
 
-        pub occupied_good : b ≡ false → Judged.Good ≡ judged_of (named_in t *25* l)
+        pub occupied_good : b ≡ false → Ok tt ≡ judged_of (named_in t *25* l)
         unfolding named_in named_by run check judged_of ◌⨾◌ ◌=?◌
         occupied_good z = rw (← p, ← e, h, ← p', ← e', h', ← pm, ← em, z)
 
 module _ (t : List ℕ) (r k : ℕ) (l : List ℕ) where
-  pub refs_80 : k ≡ *80* → {v : Judged} → v ≡ judged_of (first_in t r l) → v ≡ judged_of (ref_in t r k l)
+  pub refs_80 : k ≡ *80* → {v : Result (Unit {0}) Flaw} → v ≡ judged_of (first_in t r l) → v ≡ judged_of (ref_in t r k l)
   unfolding ref_in ◌=?◌
   refs_80 e q = rw e q
 
-  refs_named : (j : ℕ) → k ≡ j → j =? *80* ≡ false → {v : Judged} → v ≡ judged_of (named_in t j l) → v ≡ judged_of (ref_in t r k l)
+  refs_named : (j : ℕ) → k ≡ j → j =? *80* ≡ false → {v : Result (Unit {0}) Flaw} → v ≡ judged_of (named_in t j l) → v ≡ judged_of (ref_in t r k l)
   unfolding ref_in
   refs_named j e d q = rw (e, d) q
 
-  pub refs_25 : k ≡ *25* → {v : Judged} → v ≡ judged_of (named_in t *25* l) → v ≡ judged_of (ref_in t r k l)
+  pub refs_25 : k ≡ *25* → {v : Result (Unit {0}) Flaw} → v ≡ judged_of (named_in t *25* l) → v ≡ judged_of (ref_in t r k l)
   refs_25 e = refs_named *25* e (unfold ◌=?◌ in refl)
 
-  pub refs_91 : k ≡ *91* → {v : Judged} → v ≡ judged_of (named_in t *91* l) → v ≡ judged_of (ref_in t r k l)
+  pub refs_91 : k ≡ *91* → {v : Result (Unit {0}) Flaw} → v ≡ judged_of (named_in t *91* l) → v ≡ judged_of (ref_in t r k l)
   refs_91 e = refs_named *91* e (unfold ◌=?◌ in refl)
 
-  pub refs_92 : k ≡ *92* → {v : Judged} → v ≡ judged_of (named_in t *92* l) → v ≡ judged_of (ref_in t r k l)
+  pub refs_92 : k ≡ *92* → {v : Result (Unit {0}) Flaw} → v ≡ judged_of (named_in t *92* l) → v ≡ judged_of (ref_in t r k l)
   refs_92 e = refs_named *92* e (unfold ◌=?◌ in refl)
 
-  pub refs_none : (k ≡ *25* → ⊥) → (k ≡ *80* → ⊥) → (k ≡ *91* → ⊥) → (k ≡ *92* → ⊥) → Judged.Good ≡ judged_of (ref_in t r k l)
+  pub refs_none : (k ≡ *25* → ⊥) → (k ≡ *80* → ⊥) → (k ≡ *91* → ⊥) → (k ≡ *92* → ⊥) → Ok tt ≡ judged_of (ref_in t r k l)
   unfolding ref_in named_in named_by run judged_of
   refs_none a b c d = rw (of≢ a, of≢ b, of≢ c, of≢ d)
 
@@ -198,7 +200,7 @@ module _ (f t : List ℕ) (given : Referable f t) (n i : ℕ) (g : Referring f n
     unfolding formed_lines
     fine = both (rw (lines_more f n i h) at g.form)
 
-    module _ (l : List ℕ) (el : l ≡ line_at f i) (k : ℕ) (ek : k ≡ kind_of (code_at l)) (j : Judged) (ej : j ≡ judged_of (ref_in t (i + 1) k l)) where
+    module _ (l : List ℕ) (el : l ≡ line_at f i) (k : ℕ) (ek : k ≡ kind_of (code_at l)) (j : Result (Unit {0}) Flaw) (ej : j ≡ judged_of (ref_in t (i + 1) k l)) where
       judged : j ≡ judged_of (run (ref_checks (meanings chapter4 f) (i + 1) (meaning chapter4 (line_at f i))))
       judged =
           ej ∙ rw (given.table, refs_told (meanings chapter4 f) (i + 1) l (rw el (both fine.0).1) k ek, el)
@@ -208,11 +210,11 @@ module _ (f t : List ℕ) (given : Referable f t) (n i : ℕ) (g : Referring f n
       unfolding refer
       unrolled = rw (lines_more f n i h) at g.same
 
-      pub refer_fault : (m c : ℕ) → j ≡ Judged.Bad m c → record { number = m; «record» = i + 1; column = c } ≡ fault_of (reference_verdict chapter4 f)
+      pub refer_fault : (w : Flaw) → j ≡ Err w → {x : Fault} → x ≡ record { number = w.number; «record» = i + 1; column = w.column } → x ≡ fault_of (reference_verdict chapter4 f)
       unfolding in_record fault_of
-      refer_fault m c q = ap fault_of (rw (bad_is _ m c (sym judged ∙ q)) at unrolled)
+      refer_fault w q z = z ∙ ap fault_of (rw (bad_is _ w (sym judged ∙ q)) at unrolled)
 
-      pub refer_on : j ≡ Judged.Good → Referring f n (i + 1)
+      pub refer_on : j ≡ Ok tt → Referring f n (i + 1)
       unfolding in_record
       refer_on q = record { count = g.count; form = fine.1; same = rw (good_is _ (sym judged ∙ q)) at unrolled }
 

@@ -7,6 +7,7 @@ use native.Mathlib.Omega.{arith}
 use lib.Dec.{leb, eqb}
 use lib.ListN.{length, get_or, take}
 use borrow.Author.Tests.{leb-true}
+use Rattle.std.specs.Prelude.{Result, Ok, Err}
 use Rattle.rules.specs.Tests.{◌&◌, ◌≤?◌}
 use Rattle.rules.specs.Fields.{check, ◌⨾◌, is_ok, read, judge}
 use Rattle.rules.specs.Items.{good, spot}
@@ -17,44 +18,43 @@ use Rattle.rules.specs.Order.{last_job, goto}
 use Rattle.rules.specs.Chapter4.{may_stand, expectation, ordered, chapter4}
 use Rattle.rules.proofs.Truth.{and, of≤, of>, of≢, true_and, above_0, both_true}
 use Rattle.rules.proofs.FieldLaws.{is_ok_⨾, is_ok_check}
-use Rattle.kinds.specs.declared.Judged.{Judged}
+use Rattle.kinds.specs.declared.Flaw.{Flaw}
 use Rattle.kinds.specs.declared.Expect.{Expect}
 use Rattle.kinds.specs.Values.{judged_of, expect_of}
-use Rattle.kinds.proofs.ValueLaws.{good_is, bad_is}
-use Rattle.judging.proofs.RowLaws.{good_then, bad_then, ok_good}
+use Rattle.kinds.proofs.ValueLaws.{flaw, good_is, bad_is, good_then, bad_then}
+use Rattle.judging.proofs.RowLaws.{ok_good}
 use Rattle.judging.proofs.LineLaws.{alone_long}
 use Rattle.quick.specs.Rest.{Fit}
 use Rattle.walk.specs.declared.kept.Kept.{Kept}
-use Rattle.walk.specs.declared.records.Stepped.TheVariants.{Next, Fault}
 use Rattle.walk.specs.Keeping.{past_of, expect_in, foreign, moved_of}
 use Rattle.walk.specs.Words.{lead_in}
 use Rattle.walk.specs.Walking.{judge_at, stepped, step_of}
 use Rattle.walk.proofs.KeptLaws.{expect_is, stands}
 
-pub placed_long : (l : List ℕ) (b : Judged) → b ≡ judged_of (bytes 80 1 l) → b ≡ Judged.Good → 80 ≤ length l
+pub placed_long : (l : List ℕ) (b : Result (Unit {0}) Flaw) → b ≡ judged_of (bytes 80 1 l) → b ≡ Ok tt → 80 ≤ length l
 placed_long l b p q = omega (arith, alone_long l b p q)
 
 module _ (rows : List (List ℕ)) (s : Kept) (r : ℕ) (l : List ℕ) where
-  pub placed_late : 99_999 < r → Judged.Bad 2 1 ≡ judged_of (judge_at rows s r l)
+  pub placed_late : 99_999 < r → {w : Flaw} → w ≡ flaw 2 1 → Err w ≡ judged_of (judge_at rows s r l)
   unfolding judge_at check ◌⨾◌ judged_of
-  placed_late h = rw (of> {m = r} {n = 99_999} h)
+  placed_late h z = rw (z, of> {m = r} {n = 99_999} h)
 
   in-time : r ≤ 99_999 → judge_at rows s r l ≡ judge_line (ordered rows last_job) (past_of s) l
   unfolding judge_at check ◌⨾◌
   in-time h = rw (of≤ h)
 
-  pub placed_bytes : r ≤ 99_999 → (b : Judged) → b ≡ judged_of (bytes 80 1 l) → (m c : ℕ) → b ≡ Judged.Bad m c → Judged.Bad m c ≡ judged_of (judge_at rows s r l)
-  placed_bytes h b p m c q = rw (in-time h) (unfold judge_line in sym (bad_then (bytes 80 1 l) _ m c (sym p ∙ q)))
+  pub placed_bytes : r ≤ 99_999 → (b : Result (Unit {0}) Flaw) → b ≡ judged_of (bytes 80 1 l) → (w : Flaw) → b ≡ Err w → Err w ≡ judged_of (judge_at rows s r l)
+  placed_bytes h b p w q = rw (in-time h) (unfold judge_line in sym (bad_then (bytes 80 1 l) _ w (sym p ∙ q)))
 
-  module _ (k : ℕ) (e : k ≡ kind_of (code_at l)) (h : r ≤ 99_999) (b : Judged) (p : b ≡ judged_of (bytes 80 1 l)) (q : b ≡ Judged.Good) where
+  module _ (k : ℕ) (e : k ≡ kind_of (code_at l)) (h : r ≤ 99_999) (b : Result (Unit {0}) Flaw) (p : b ≡ judged_of (bytes 80 1 l)) (q : b ≡ Ok tt) where
     -- after the bytes
     coded : judge_at rows s r l
         ≡ check (k ≤? 13) 6 7 ⨾ check (may_stand rows (past_of s) (code_at l)) 7 7 ⨾ numbered chapter4 l ⨾ judge (expectation (past_of s) (code_at l)) (map (read l) (get_or layouts k kept))
     unfolding judge_line known numbered entries layout
     coded = in-time h ∙ (unfold judge_line in good_then (bytes 80 1 l) _ (sym p ∙ q)) ∙ rw e
 
-    pub placed_code : 13 < k → Judged.Bad 6 7 ≡ judged_of (judge_at rows s r l)
-    placed_code t = rw coded (unfold check ◌⨾◌ judged_of in rw (of> {m = k} {n = 13} t))
+    pub placed_code : 13 < k → {w : Flaw} → w ≡ flaw 6 7 → Err w ≡ judged_of (judge_at rows s r l)
+    placed_code t y = rw (y, coded) (unfold check ◌⨾◌ judged_of in rw (of> {m = k} {n = 13} t))
 
     module _ (t : k ≤ 13) (next : ℕ) (n : next ≡ goto rows s.place k) where
       small : kind_of (code_at l) ≤ 13
@@ -65,29 +65,29 @@ module _ (rows : List (List ℕ)) (s : Kept) (r : ℕ) (l : List ℕ) where
       unfolding check ◌⨾◌
       stood = coded ∙ rw (of≤ {m = k} {n = 13} t, stands l small rows s k e, ← n)
 
-      pub placed_order : next ≡ 0 → Judged.Bad 7 7 ≡ judged_of (judge_at rows s r l)
-      placed_order z = rw stood (unfold check ◌⨾◌ judged_of ◌&◌ in rw (of> {m = 1} {n = next} (omega arith)))
+      pub placed_order : next ≡ 0 → {w : Flaw} → w ≡ flaw 7 7 → Err w ≡ judged_of (judge_at rows s r l)
+      placed_order z y = rw (y, stood) (unfold check ◌⨾◌ judged_of ◌&◌ in rw (of> {m = 1} {n = next} (omega arith)))
 
       module _ (z : next ≡ 0 → ⊥) (x : ℕ) (ex : x ≡ get_or l 7 0) (y : ℕ) (ey : y ≡ get_or l 8 0) (o : Bool) (u : o ≡ foreign s k x y) where
         come : 1 ≤? next & not (foreign s k (get_or l 7 0) (get_or l 8 0)) ≡ not o
         come = rw (of≤ {m = 1} {n = next} (above_0 next z), ← ex, ← ey, ← u) (true_and (not o))
 
-        pub placed_foreign : o ≡ true → Judged.Bad 7 7 ≡ judged_of (judge_at rows s r l)
-        placed_foreign w = rw stood (unfold check ◌⨾◌ judged_of in rw (come, w))
+        pub placed_foreign : o ≡ true → {b : Flaw} → b ≡ flaw 7 7 → Err b ≡ judged_of (judge_at rows s r l)
+        placed_foreign w a = rw (a, stood) (unfold check ◌⨾◌ judged_of in rw (come, w))
 
-        pub placed_rest : o ≡ false → (d : Expect) → d ≡ expect_in s k → {v : Judged} → v ≡ judged_of (numbered chapter4 l ⨾ judge (expect_of d) (map (read l) (get_or layouts k kept)))
+        pub placed_rest : o ≡ false → (d : Expect) → d ≡ expect_in s k → {v : Result (Unit {0}) Flaw} → v ≡ judged_of (numbered chapter4 l ⨾ judge (expect_of d) (map (read l) (get_or layouts k kept)))
             → v ≡ judged_of (judge_at rows s r l)
         placed_rest w d f g = g ∙ sym (rw stood (unfold check ◌⨾◌ in rw (come, w, ← expect_is s k (code_at l) e, f)))
 
   module _ (k : ℕ) (e : k ≡ kind_of (code_at l)) (next : ℕ) (n : next ≡ goto rows s.place k) where
     -- ---- the quick test: what fits has no fault
-    pub placed_quick : (d : Expect) → d ≡ expect_in s k → (t : Bool) → (t ≡ true → Fit l k (expect_of d)) → (not (eqb next 0) && leb r 99_999 && t) ≡ true → Judged.Good ≡ judged_of (judge_at rows s r l)
+    pub placed_quick : (d : Expect) → d ≡ expect_in s k → (t : Bool) → (t ≡ true → Fit l k (expect_of d)) → (not (eqb next 0) && leb r 99_999 && t) ≡ true → Ok tt ≡ judged_of (judge_at rows s r l)
     placed_quick d f t g q =
         let x = both_true (not (eqb next 0) && leb r 99_999) t q in
         let y = both_true (not (eqb next 0)) (leb r 99_999) x.0 in
         let F = g x.1 in
         let fine = is_ok_⨾ (numbered chapter4 l) (judge (expect_of d) (map (read l) (get_or layouts k kept))) ∙ and (numbered_ok F.number) F.fields in
-        placed_rest k e (leb-true r 99_999 y.1) Judged.Good (ok_good (bytes 80 1 l) F.fine) refl F.high next n (comes y.0) (get_or l 7 0) refl (get_or l 8 0) refl
+        placed_rest k e (leb-true r 99_999 y.1) (Ok tt) (ok_good (bytes 80 1 l) F.fine) refl F.high next n (comes y.0) (get_or l 7 0) refl (get_or l 8 0) refl
         (foreign s k (get_or l 7 0) (get_or l 8 0)) refl (at_home F.low) d f (ok_good (numbered chapter4 l ⨾ judge (expect_of d) (map (read l) (get_or layouts k kept))) fine)
       where
         comes : not (eqb next 0) ≡ true → next ≡ 0 → ⊥
@@ -100,12 +100,12 @@ module _ (rows : List (List ℕ)) (s : Kept) (r : ℕ) (l : List ℕ) where
         at_home e = unfold foreign in rw (of≢ {m = k} {n = 0} (λ z. omega arith))
 
   -- ---- the step
-  module _ (v : Judged) (p : v ≡ judged_of (judge_at rows s r l)) where
-    pub step_fault : (n c : ℕ) → v ≡ Judged.Bad n c → Fault n c ≡ step_of rows s r l
+  module _ (v : Result (Unit {0}) Flaw) (p : v ≡ judged_of (judge_at rows s r l)) where
+    pub step_fault : (w : Flaw) → v ≡ Err w → Err w ≡ step_of rows s r l
     unfolding step_of stepped
-    step_fault n c q = rw (bad_is _ n c (sym p ∙ q))
+    step_fault w q = rw (bad_is _ w (sym p ∙ q))
 
-    pub step_next : v ≡ Judged.Good → (k : ℕ) → k ≡ kind_of (code_at l) → (next : ℕ) → next ≡ goto rows s.place k
-        → (x : ℕ) → x ≡ get_or l 7 0 → (y : ℕ) → y ≡ get_or l 8 0 → (lead : ℕ) → lead ≡ lead_in k l → (u : Kept) → u ≡ moved_of s next k x y lead → Next u ≡ step_of rows s r l
+    pub step_next : v ≡ Ok tt → (k : ℕ) → k ≡ kind_of (code_at l) → (next : ℕ) → next ≡ goto rows s.place k
+        → (x : ℕ) → x ≡ get_or l 7 0 → (y : ℕ) → y ≡ get_or l 8 0 → (lead : ℕ) → lead ≡ lead_in k l → (u : Kept) → u ≡ moved_of s next k x y lead → Ok u ≡ step_of rows s r l
     unfolding step_of stepped
-    step_next q k e next w x ex y ey lead el u eu = rw (good_is _ (sym p ∙ q)) (ap Next (eu ∙ rw (w, ex, ey, el, e)))
+    step_next q k e next w x ex y ey lead el u eu = rw (good_is _ (sym p ∙ q)) (ap Ok (eu ∙ rw (w, ex, ey, el, e)))

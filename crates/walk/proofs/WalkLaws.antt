@@ -11,7 +11,8 @@ use Rattle.rules.specs.Fields.{Verdict, ok, fault, check, ◌⨾◌, is_ok}
 use Rattle.rules.specs.Records.{Meaning, Edition, code_at, entries, numbered, judge_line, meaning, formed_line, permitted}
 use Rattle.rules.specs.Kinds.{kind_of, known, *25*, *70*, *72*, *80*}
 use Rattle.rules.specs.Order.{nothing, goto}
-use Rattle.rules.specs.Files.{Result, accept, refuse, is_accept, in_record, line_at, begun, lines_from, lines, meanings, walk}
+use Rattle.rules.specs.Files as files
+use Rattle.rules.specs.Files.{accept, refuse, is_accept, in_record, line_at, begun, lines_from, lines, meanings, walk}
 use Rattle.rules.specs.References.{stations, instruments, antennas, is_a, number_at, mark, slot_of, filled, tally, counts}
 use Rattle.rules.specs.Calls.{answer}
 use Rattle.rules.specs.Chapter4.{Past, at_start, may_stand, latest, after, ordered, chapter4}
@@ -24,8 +25,8 @@ use Rattle.rules.proofs.ReferenceLaws.{stations_in, instruments_in, antennas_in,
 use Rattle.kinds.specs.declared.Checked.{Checked}
 use Rattle.kinds.specs.Values.{checked_of}
 use Rattle.walk.specs.declared.kept.Kept.{Kept}
-use Rattle.walk.specs.declared.records.Stepped.{Stepped}
-use Rattle.walk.specs.declared.records.Stepped.TheVariants.{Next, Fault}
+use Rattle.std.specs.Prelude.{Result, Ok, Err}
+use Rattle.kinds.specs.declared.Flaw.{Flaw}
 use Rattle.walk.specs.Keeping.{job_of, past_of, at_first, latest_in, moved_of}
 use Rattle.walk.specs.Words.{lead_in, slot_in}
 use Rattle.walk.specs.Walking.{refusal, judge_at, stepped, step_of, Walked}
@@ -71,32 +72,32 @@ module _ (rows : List (List ℕ)) (last : ℕ) (s : Kept) (l : List ℕ) (good :
     }
 
 -- ---- what an answer of a step tells
-stepped_ok : (v : Verdict) (m u : Kept) → stepped v m ≡ Next u → is_ok v ≡ true
+stepped_ok : (v : Verdict) (m u : Kept) → stepped v m ≡ Ok u → is_ok v ≡ true
 unfolding stepped is_ok
 stepped_ok ok m u e = refl
 stepped_ok (fault n c) m u e = cc
 
-stepped_moves : (v : Verdict) (m u : Kept) → stepped v m ≡ Next u → m ≡ u
+stepped_moves : (v : Verdict) (m u : Kept) → stepped v m ≡ Ok u → m ≡ u
 unfolding stepped
 stepped_moves ok m u e = cc
 stepped_moves (fault n c) m u e = cc
 
-stepped_fault : (v : Verdict) (m : Kept) (n c : ℕ) → stepped v m ≡ Fault n c → v ≡ fault n c
+stepped_fault : (v : Verdict) (m : Kept) (w : Flaw) → stepped v m ≡ Err w → v ≡ fault w.number w.column
 unfolding stepped
-stepped_fault ok m n c e = cc
-stepped_fault (fault n' c') m n c e = cc
+stepped_fault ok m w e = cc
+stepped_fault (fault n c) m w e = cc
 
 -- a line is judged alike wherever a file ends
 any_last : (rows : List (List ℕ)) (last : ℕ) (s : Kept) (r : ℕ) (l : List ℕ) → judge_at rows s r l ≡ check (r ≤? 99_999) 2 1 ⨾ judge_line (ordered rows last) (past_of s) l
 unfolding judge_at judge_line numbered entries
 any_last rows last s r l = refl
 
-module _ (rows : List (List ℕ)) (last : ℕ) (s : Kept) (r : ℕ) (l : List ℕ) (a : Stepped) (e : a ≡ step_of rows s r l) where
-  pub step_refuses : (n c : ℕ) → a ≡ Fault n c → check (r ≤? 99_999) 2 1 ⨾ judge_line (ordered rows last) (past_of s) l ≡ fault n c
+module _ (rows : List (List ℕ)) (last : ℕ) (s : Kept) (r : ℕ) (l : List ℕ) (a : Result Kept Flaw) (e : a ≡ step_of rows s r l) where
+  pub step_refuses : (w : Flaw) → a ≡ Err w → check (r ≤? 99_999) 2 1 ⨾ judge_line (ordered rows last) (past_of s) l ≡ fault w.number w.column
   unfolding step_of
-  step_refuses n c q = sym (any_last rows last s r l) ∙ stepped_fault _ _ n c (sym e ∙ q)
+  step_refuses w q = sym (any_last rows last s r l) ∙ stepped_fault _ _ w (sym e ∙ q)
 
-  module _ (u : Kept) (q : a ≡ Next u) where
+  module _ (u : Kept) (q : a ≡ Ok u) where
     fine : (r ≤? 99_999 ≡ true) × (is_ok (judge_line (ordered rows last) (past_of s) l) ≡ true)
     unfolding step_of
     fine = both (sym (ap is_ok (any_last rows last s r l) ∙ is_ok_⨾ (check (r ≤? 99_999) 2 1) _ ∙ rw (is_ok_check (r ≤? 99_999) 2 1)) ∙ stepped_ok _ _ u (sym e ∙ q))
@@ -112,13 +113,13 @@ module _ (rows : List (List ℕ)) (last : ℕ) (s : Kept) (r : ℕ) (l : List �
     step_past = ap past_of (sym (stepped_moves _ _ u (sym e ∙ q))) ∙ (unfold meaning in moved_past rows last s l fine.1 (kind_of (code_at l)) refl)
 
 -- ---- answers
-pub refused_is : (m r c : ℕ) (x : Result) (ms : List Meaning) → refuse m r c ≡ x → refusal m r c ≡ checked_of (answer x ms)
-refused_is m r c x ms e = subst (λ (y : Result). refusal m r c ≡ checked_of (answer y ms)) e (unfold answer checked_of in refl)
+pub refused_is : (m r c : ℕ) (x : files.Result) (ms : List Meaning) → refuse m r c ≡ x → refusal m r c ≡ checked_of (answer x ms)
+refused_is m r c x ms e = subst (λ (y : files.Result). refusal m r c ≡ checked_of (answer y ms)) e (unfold answer checked_of in refl)
 
-pub accepted_is : (x : Result) (ms : List Meaning) → accept ≡ x → record { fault = record { number = 0; «record» = 0; column = 0 }; counts = counts ms } ≡ checked_of (answer x ms)
-accepted_is x ms e = subst (λ (y : Result). record { fault = record { number = 0; «record» = 0; column = 0 }; counts = counts ms } ≡ checked_of (answer y ms)) e (unfold answer checked_of in refl)
+pub accepted_is : (x : files.Result) (ms : List Meaning) → accept ≡ x → record { fault = record { number = 0; «record» = 0; column = 0 }; counts = counts ms } ≡ checked_of (answer x ms)
+accepted_is x ms e = subst (λ (y : files.Result). record { fault = record { number = 0; «record» = 0; column = 0 }; counts = counts ms } ≡ checked_of (answer y ms)) e (unfold answer checked_of in refl)
 
-pub refused-not : (m r c : ℕ) (x : Result) → refuse m r c ≡ x → is_accept x ≡ true → ⊥
+pub refused-not : (m r c : ℕ) (x : files.Result) → refuse m r c ≡ x → is_accept x ≡ true → ⊥
 unfolding is_accept
 refused-not m r c x e h = false≢true (ap is_accept e ∙ h)
 
@@ -191,20 +192,22 @@ module _ (rows : List (List ℕ)) (last : ℕ) (f : List ℕ) (n : ℕ) (t₀ t 
   abbrev E : Edition Past
   E = ordered rows last
 
-  module _ (h : i < n) (l : List ℕ) (el : l ≡ line_at f i) (a : Stepped) (ea : a ≡ step_of rows s (i + 1) l) where
+  module _ (h : i < n) (l : List ℕ) (el : l ≡ line_at f i) (a : Result Kept Flaw) (ea : a ≡ step_of rows s (i + 1) l) where
     here : walk E (past_of s) (i + 1) (line_at f i ∷ lines_from f (n - (i + 1)) (i + 1)) ≡ walk E at_start 1 (lines f)
     here = rw (lines_more f n i h) at g.same
 
-    pub go_fault : (m c : ℕ) → a ≡ Fault m c → {v : Checked} → v ≡ refusal m (i + 1) c → Walked E f v t₀ t
-    go_fault m c q w =
-        let z : refuse m (i + 1) c ≡ walk E at_start 1 (lines f) = walk_bad E (past_of s) (i + 1) (line_at f i) _ m c (rw (← el) (step_refuses rows last s (i + 1) l a ea m c q)) ∙ here in
+    pub go_fault : (w : Flaw) → a ≡ Err w → {v : Checked} → v ≡ refusal w.number (i + 1) w.column → Walked E f v t₀ t
+    go_fault x q w =
+        let m = x.number in
+        let c = x.column in
+        let z : refuse m (i + 1) c ≡ walk E at_start 1 (lines f) = walk_bad E (past_of s) (i + 1) (line_at f i) _ m c (rw (← el) (step_refuses rows last s (i + 1) l a ea x q)) ∙ here in
         record {
           first = w ∙ refused_is m (i + 1) c _ (meanings E f) z;
           size = g.size;
           filling = λ y. absurd (refused-not m (i + 1) c _ z y);
         }
 
-    module _ (u : Kept) (q : a ≡ Next u) (k : ℕ) (ek : k ≡ kind_of (code_at l)) where
+    module _ (u : Kept) (q : a ≡ Ok u) (k : ℕ) (ek : k ≡ kind_of (code_at l)) where
       pub go_known : k < 14
       go_known = rw ek (step_known rows last s (i + 1) l a ea u q)
 
@@ -249,8 +252,10 @@ module _ (rows : List (List ℕ)) (last : ℕ) (f : List ℕ) (n : ℕ) (t₀ t 
     unfolding walk past_of
     ended = rw (lines_none f n i h) at g.same
 
-    pub go_short : (s.place ≡ last → ⊥) → {v : Checked} → v ≡ refusal 8 (i + 1) 1 → Walked E f v t₀ t
-    go_short e w =
+    pub go_short : (s.place ≡ last → ⊥) → i ≤ n → {v : Checked} → v ≡ refusal 8 (n + 1) 1 → Walked E f v t₀ t
+    go_short e b w' =
+        let all : n ≡ i = omega arith in
+        let w = w' ∙ ap (λ k. refusal 8 (k + 1) 1) all in
         let z : refuse 8 (i + 1) 1 ≡ walk E at_start 1 (lines f) = rw (of≢ e) at ended in
         record {
           first = w ∙ refused_is 8 (i + 1) 1 _ (meanings E f) z;

@@ -77,15 +77,6 @@ length_none = length-replicate {A = ℕ} 12_000 0
 pub zeros_fit : (t : List ℕ) → t ≡ no_words → length t ≤ 12_000
 zeros_fit t e = omega (arith, ap length e, length_none)
 
-pub clear_more : (t₀ t : List ℕ) (i : ℕ) → length t₀ ≡ 12_000 → t ≡ replicate i 0 ++ drop i t₀ → i < 12_000 → set t i 0 ≡ replicate (i + 1) 0 ++ drop (i + 1) t₀
-clear_more t₀ t i n e h = rw e (fill_more i 0 t₀ (omega arith))
-
-pub clear_done : (t₀ t : List ℕ) (i : ℕ) → length t₀ ≡ 12_000 → t ≡ replicate i 0 ++ drop i t₀ → i ≤ 12_000 → 12_000 ≤ i → t ≡ no_words
-unfolding no_words
-clear_done t₀ t i n e h k =
-    let q : i ≡ 12_000 = omega arith in
-    (rw (q, drop_of_length-le t₀ {i = 12_000} (omega arith), append-nil {A = ℕ} (replicate 12_000 0)) at e)
-
 pub mark_record : (r k : ℕ) (l t : List ℕ) → (n : ℕ) → n ≡ lead_in k l → (i : ℕ) → i ≡ slot_in k n → {u : List ℕ} → u ≡ mark r i t → u ≡ mark r (slot_in k (lead_in k l)) t
 mark_record r k l t n e i q z = z ∙ rw (q, e)
 

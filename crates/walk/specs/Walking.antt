@@ -1,5 +1,5 @@
 -- The walk over the records, and what it leaves in the table.
-use Rattle.std.specs.Prelude.{◌≡◌, true, cond, List, ℕ, length, get_or, replicate}
+use Rattle.std.specs.Prelude.{◌≡◌, true, cond, List, ℕ, length, get_or, replicate, Result, Ok, Err}
 use Rattle.rules.specs.Tests.{◌≤?◌, ◌=?◌}
 use Rattle.rules.specs.Fields.{Verdict, ok, fault, check, ◌⨾◌}
 use Rattle.rules.specs.Records.{Edition, code_at, judge_line}
@@ -9,11 +9,10 @@ use Rattle.rules.specs.Files.{is_accept, meanings, form_verdict, verdict}
 use Rattle.rules.specs.References.{words, filled}
 use Rattle.rules.specs.Calls.{answer}
 use Rattle.rules.specs.Chapter4.{ordered, chapter4}
+use Rattle.kinds.specs.declared.Flaw.{Flaw}
 use Rattle.kinds.specs.declared.Checked.{Checked}
 use Rattle.kinds.specs.Values.{checked_of}
 use Rattle.walk.specs.declared.kept.Kept.{Kept}
-use Rattle.walk.specs.declared.records.Stepped.{Stepped}
-use Rattle.walk.specs.declared.records.Stepped.TheVariants.{Next, Fault}
 use Rattle.walk.specs.Keeping.{past_of, moved_of}
 use Rattle.walk.specs.Words.{no_words, lead_in}
 
@@ -25,11 +24,11 @@ unfoldable pub judge_at : (rows : List (List ℕ)) → Kept → ℕ → List ℕ
 judge_at rows s r l = check (r ≤? 99_999) 2 1 ⨾ judge_line (ordered rows last_job) (past_of s) l
 
 -- where record r of a file stands in it: its own fault, or what is kept after it
-unfoldable pub stepped : Verdict → Kept → Stepped
-stepped ok s = Next s
-stepped (fault n c) s = Fault n c
+unfoldable pub stepped : Verdict → Kept → Result Kept Flaw
+stepped ok s = Ok s
+stepped (fault n c) s = Err record { number = n; column = c }
 
-unfoldable pub step_of : (rows : List (List ℕ)) → Kept → ℕ → List ℕ → Stepped
+unfoldable pub step_of : (rows : List (List ℕ)) → Kept → ℕ → List ℕ → Result Kept Flaw
 step_of rows s r l =
     let k = kind_of (code_at l) in
     stepped (judge_at rows s r l) (moved_of s (goto rows s.place k) k (get_or l 7 0) (get_or l 8 0) (lead_in k l))

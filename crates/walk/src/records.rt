@@ -15,16 +15,9 @@ use crate::words::{leading, mark_record};
 use columns::parts::byte_at;
 use judging::codes::kind_at;
 use judging::lines::{judge_bytes, judge_rest};
-use kinds::{Checked, Fault, Judged};
+use kinds::{Checked, Fault, Flaw};
 use quick::fits;
 use reading::lines::{count_begun, line};
-
-// What one record does to the walk.
-#[derive(Clone, Copy)]
-pub enum Stepped {
-    Next(Kept),
-    Fault(u32, usize),
-}
 
 pub fn refused(number: u32, record: usize, column: usize) -> Checked
     ensures { result ≡ refusal number «record» column }
@@ -40,25 +33,28 @@ pub fn refused(number: u32, record: usize, column: usize) -> Checked
 }
 
 // Record r, judged test by test.
-fn judge_placed(rows: &[[u8; 14]; 17], s: Kept, r: usize, line: &[u8], kind: usize) -> Judged
+fn judge_placed(
+    rows: &[[u8; 14]; 17],
+    s: Kept,
+    r: usize,
+    line: &[u8],
+    kind: usize,
+) -> Result<(), Flaw>
     requires { (kind ≡ kind_of (code_at line.now)) × (tabular rows.now ≡ true) }
     ensures { result ≡ judged_of (judge_at rows.now s r line.now) }
 {
     if 99_999 < r {
-        return Judged::Bad(2, 1);
+        return Err(Flaw::new(2, 1));
     }
-    let b = judge_bytes(line);
-    if let Judged::Bad(n, c) = b {
-        return Judged::Bad(n, c);
-    }
+    judge_bytes(line)?;
     if 13 < kind {
-        return Judged::Bad(6, 7);
+        return Err(Flaw::new(6, 7));
     }
     if look_up(rows, s.place, kind) == 0 {
-        return Judged::Bad(7, 7);
+        return Err(Flaw::new(7, 7));
     }
     if is_foreign(s, kind, byte_at(line, 7), byte_at(line, 8)) {
-        return Judged::Bad(7, 7);
+        return Err(Flaw::new(7, 7));
     }
     judge_rest(line, kind, expect(s, kind))
 }
@@ -72,12 +68,12 @@ fn judge_quickly(
     line: &[u8],
     kind: usize,
     classes: &[[[u8; 80]; 5]; 14],
-) -> Judged
+) -> Result<(), Flaw>
     requires { (kind ≡ kind_of (code_at line.now)) × (tabular rows.now ≡ true) × (next ≡ goto rows.now s.place kind) × (classes.now ≡ class_table) }
     ensures { result ≡ judged_of (judge_at rows.now s r line.now) }
 {
     if (next != 0) & (r <= 99_999) & fits(line, kind, expect(s, kind), classes) {
-        return Judged::Good;
+        return Ok(());
     }
     judge_placed(rows, s, r, line, kind)
 }
@@ -89,22 +85,20 @@ fn step(
     line: &[u8],
     kind: usize,
     classes: &[[[u8; 80]; 5]; 14],
-) -> Stepped
+) -> Result<Kept, Flaw>
     requires { (kind ≡ kind_of (code_at line.now)) × (tabular rows.now ≡ true) × (classes.now ≡ class_table) }
     ensures { result ≡ step_of rows.now s r line.now }
 {
     let next = look_up(rows, s.place, kind);
-    match judge_quickly(rows, s, next, r, line, kind, classes) {
-        Judged::Bad(n, c) => Stepped::Fault(n, c),
-        Judged::Good => Stepped::Next(moved(
-            s,
-            next,
-            kind,
-            byte_at(line, 7),
-            byte_at(line, 8),
-            leading(line, kind),
-        )),
-    }
+    judge_quickly(rows, s, next, r, line, kind, classes)?;
+    Ok(moved(
+        s,
+        next,
+        kind,
+        byte_at(line, 7),
+        byte_at(line, 8),
+        leading(line, kind),
+    ))
 }
 
 // The first fault, or the counts, by any rows and the place that a file ends at; each good record that defines a number is put into the
@@ -130,24 +124,22 @@ pub(crate) fn walk_records(
         antenna: 0,
     };
     let mut counts = [0u32; 14];
-    let mut i: usize = 0;
-    while i < n {
+    for i in 0..n {
         let l = line(file, i);
         let kind = kind_at(l);
         match step(rows, s, i + 1, l, kind, classes) {
-            Stepped::Fault(number, column) => {
-                return refused(number, i + 1, column);
+            Err(flaw) => {
+                return refused(flaw.number, i + 1, flaw.column);
             }
-            Stepped::Next(t) => {
+            Ok(t) => {
                 s = t;
             }
         }
         counts[kind] = counts[kind] + 1;
         mark_record(words, l, kind, i as u32 + 1);
-        i += 1;
     }
     if s.place != last {
-        return refused(8, i + 1, 1);
+        return refused(8, n + 1, 1);
     }
     Checked {
         fault: Fault {

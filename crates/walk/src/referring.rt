@@ -8,7 +8,7 @@ ghost use Rattle.walk.specs.References.{first_in, undefined_in, named_in, ref_in
 
 use crate::words::{slot, word_at};
 use judging::codes::kind_at;
-use kinds::{Fault, Judged, Local, Network, Occupation, Point};
+use kinds::{Fault, Flaw, Local, Network, Occupation, Point};
 use reading::lines::{count_begun, line};
 use reading::values::number_in;
 
@@ -19,15 +19,15 @@ fn size(n: u32) -> usize
 }
 
 // 11: an *80* is the first with its station number.
-fn judge_first(words: &[u32], r: usize, line: &[u8]) -> Judged
+fn judge_first(words: &[u32], r: usize, line: &[u8]) -> Result<(), Flaw>
     ensures { result ≡ judged_of (first_in words.now r line.now) }
 {
     let station = number_in(line, Point::STATION, Point::STATION_WIDTH);
     let first = word_at(words, slot(9, station));
     if size(first) == r {
-        return Judged::Good;
+        return Ok(());
     }
-    Judged::Bad(11, Point::STATION)
+    Err(Flaw::new(11, Point::STATION))
 }
 
 // Whether no record of a kind defines a number.
@@ -38,51 +38,51 @@ fn is_undefined(words: &[u32], kind: usize, number: u32) -> bool
 }
 
 // 12: a *25* names a defined station, instrument and antenna.
-fn judge_occupation(words: &[u32], line: &[u8]) -> Judged
+fn judge_occupation(words: &[u32], line: &[u8]) -> Result<(), Flaw>
     ensures { result ≡ judged_of (named_in words.now *25* line.now) }
 {
     let station = number_in(line, Occupation::STATION, Occupation::STATION_WIDTH);
     if is_undefined(words, 9, station) {
-        return Judged::Bad(12, Occupation::STATION);
+        return Err(Flaw::new(12, Occupation::STATION));
     }
     let instrument = number_in(line, Occupation::INSTRUMENT, Occupation::INSTRUMENT_WIDTH);
     if is_undefined(words, 7, instrument) {
-        return Judged::Bad(12, Occupation::INSTRUMENT);
+        return Err(Flaw::new(12, Occupation::INSTRUMENT));
     }
     let antenna = number_in(line, Occupation::ANTENNA, Occupation::ANTENNA_WIDTH);
     if is_undefined(words, 8, antenna) {
-        return Judged::Bad(12, Occupation::ANTENNA);
+        return Err(Flaw::new(12, Occupation::ANTENNA));
     }
-    Judged::Good
+    Ok(())
 }
 
 // A *91* names a defined station.
-fn judge_network(words: &[u32], line: &[u8]) -> Judged
+fn judge_network(words: &[u32], line: &[u8]) -> Result<(), Flaw>
     ensures { result ≡ judged_of (named_in words.now *91* line.now) }
 {
     let station = number_in(line, Network::STATION, Network::STATION_WIDTH);
     if is_undefined(words, 9, station) {
-        return Judged::Bad(12, Network::STATION);
+        return Err(Flaw::new(12, Network::STATION));
     }
-    Judged::Good
+    Ok(())
 }
 
 // A *92* names two.
-fn judge_local(words: &[u32], line: &[u8]) -> Judged
+fn judge_local(words: &[u32], line: &[u8]) -> Result<(), Flaw>
     ensures { result ≡ judged_of (named_in words.now *92* line.now) }
 {
     let standpoint = number_in(line, Local::STANDPOINT, Local::STANDPOINT_WIDTH);
     if is_undefined(words, 9, standpoint) {
-        return Judged::Bad(12, Local::STANDPOINT);
+        return Err(Flaw::new(12, Local::STANDPOINT));
     }
     let forepoint = number_in(line, Local::FOREPOINT, Local::FOREPOINT_WIDTH);
     if is_undefined(words, 9, forepoint) {
-        return Judged::Bad(12, Local::FOREPOINT);
+        return Err(Flaw::new(12, Local::FOREPOINT));
     }
-    Judged::Good
+    Ok(())
 }
 
-fn judge_references(words: &[u32], r: usize, line: &[u8], kind: usize) -> Judged
+fn judge_references(words: &[u32], r: usize, line: &[u8], kind: usize) -> Result<(), Flaw>
     ensures { result ≡ judged_of (ref_in words.now r kind line.now) }
 {
     match kind {
@@ -90,7 +90,7 @@ fn judge_references(words: &[u32], r: usize, line: &[u8], kind: usize) -> Judged
         9 => judge_first(words, r, line),
         11 => judge_network(words, line),
         12 => judge_local(words, line),
-        _ => Judged::Good,
+        _ => Ok(()),
     }
 }
 
@@ -100,19 +100,12 @@ pub(crate) fn refer_records(file: &[u8], words: &[u32]) -> Fault
     ensures { result ≡ fault_of (reference_verdict chapter4 file.now) }
 {
     let n = count_begun(file);
-    let mut i: usize = 0;
-    while i < n {
+    for i in 0..n {
         let l = line(file, i);
         let kind = kind_at(l);
-        let j = judge_references(words, i + 1, l, kind);
-        if let Judged::Bad(number, column) = j {
-            return Fault {
-                number: number,
-                record: i + 1,
-                column: column,
-            };
+        if let Err(flaw) = judge_references(words, i + 1, l, kind) {
+            return flaw.in_record(i + 1);
         }
-        i += 1;
     }
     Fault {
         number: 0,

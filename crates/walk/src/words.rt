@@ -10,11 +10,7 @@ pub(crate) fn clear(words: &mut [u32])
     requires { length words.old ≡ 12_000 }
     ensures { words.new ≡ no_words }
 {
-    let mut i: usize = 0;
-    while i < 12_000 {
-        words[i] = 0;
-        i += 1;
-    }
+    words.fill(0);
 }
 
 // A word of the table, and 0 where it has none.

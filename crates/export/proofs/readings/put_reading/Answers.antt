@@ -8,8 +8,8 @@ put_refusal-requires c = search (told_small, rules)
 pub put_values-requires : goal.put_values-requires
 put_values-requires c = search (told_held, rules)
 
-pub returns-in-Refused : goal.returns-in-Refused
-returns-in-Refused c = search (answer_unread, rules)
+pub returns-in-Err : goal.returns-in-Err
+returns-in-Err c = search (answer_unread, rules)
 
-pub returns-in-Values : goal.returns-in-Values
-returns-in-Values c = search (answer_read, rules)
+pub returns-in-Ok : goal.returns-in-Ok
+returns-in-Ok c = search (answer_read, rules)

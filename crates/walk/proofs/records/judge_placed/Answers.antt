@@ -1,12 +1,17 @@
 use Rattle.walk.proofs.StepLaws.{placed_late, placed_bytes, placed_long, placed_code, placed_order, placed_foreign, placed_rest}
 use borrow.Author.Rules.{rules}
+use mathlib.Core.Path.{◌∙◌}
+use Rattle.kinds.proofs.ValueLaws.{handed_on}
 use Rattle.walk.proofs.records.judge_placed.Goals as goal
 
 pub returns-then-r-gt99999 : goal.returns-then-r-gt99999
 returns-then-r-gt99999 c = search (placed_late, rules)
 
-pub returns-in-Bad : goal.returns-in-Bad
-returns-in-Bad c = search (placed_bytes, rules)
+pub returns-in_err-judge_bytes : goal.returns-in_err-judge_bytes
+returns-in_err-judge_bytes c =
+    let a = c.args in
+    let b = c.judge_bytes in
+    handed_on c.from_residual.ensures.1 ∙ placed_bytes a.rows.now a.s a.r a.line.now c.if-r-gt99999.false b.result b.ensures _ c.in_err-judge_bytes.was
 
 pub returns-then-kind-gt13 : goal.returns-then-kind-gt13
 returns-then-kind-gt13 c = search (placed_code, rules)

@@ -1,9 +1,14 @@
 use Rattle.walk.proofs.StepLaws.{step_fault, step_next}
 use borrow.Author.Rules.{rules}
+use mathlib.Core.Path.{◌∙◌}
+use Rattle.kinds.proofs.ValueLaws.{handed_on}
 use Rattle.walk.proofs.records.step.Goals as goal
 
-pub returns-in-Bad : goal.returns-in-Bad
-returns-in-Bad c = search (step_fault, rules)
+pub returns-in_err-judge_quickly : goal.returns-in_err-judge_quickly
+returns-in_err-judge_quickly c =
+    let a = c.args in
+    let j = c.judge_quickly in
+    handed_on c.from_residual.ensures.1 ∙ step_fault a.rows.now a.s a.r a.line.now j.result j.ensures _ c.in_err-judge_quickly.was
 
-pub returns-in-Good : goal.returns-in-Good
-returns-in-Good c = search (step_next, rules)
+pub returns : goal.returns
+returns c = search (step_next, rules)

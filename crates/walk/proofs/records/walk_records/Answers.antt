@@ -7,8 +7,8 @@ use Rattle.walk.proofs.records.walk_records.Goals as goal
 pub loop-i-init : goal.loop-i-init
 loop-i-init c = search (go_from, rules)
 
-pub returns-in-Fault : goal.returns-in-Fault
-returns-in-Fault c = search (go_fault, rules)
+pub returns-in-Err : goal.returns-in-Err
+returns-in-Err c = search (go_fault, rules)
 
 pub offset_bounds-counts-kind : goal.offset_bounds-counts-kind
 offset_bounds-counts-kind c = let known : c.kind_at-kind.result < 14 = search (go_known, rules) in omega arith

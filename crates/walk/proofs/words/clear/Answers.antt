@@ -1,9 +1,7 @@
-use borrow.Author.Rules.{rules}
-use Rattle.walk.proofs.WordLaws.{clear_more, clear_done}
+use mathlib.Core.Path.{◌∙◌}
+use Rattle.walk.specs.Words.{no_words}
 use Rattle.walk.proofs.words.clear.Goals as goal
 
-pub loop-i-preserved : goal.loop-i-preserved
-loop-i-preserved c = search (clear_more, rules)
-
 pub returns : goal.returns
-returns c = search (clear_done, rules)
+unfolding no_words
+returns c = c.fill.ensures.after (λ y e. e) ∙ rw c.requires
