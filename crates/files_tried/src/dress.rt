@@ -1,8 +1,7 @@
 // Two files rewritten: the bytes are equal exactly when the files mean the same.
-use crate::compare::bytes_differing;
-use crate::input::read_file;
+use crate::compare::count_differing;
 use crate::lent::BYTE;
-use crate::print::{size, text};
+use inputs::read_file;
 use std::io;
 use std::rt::Files;
 
@@ -27,10 +26,11 @@ pub(crate) fn compare_files(
     let mut second = [BYTE; 65536];
     rewrite_file(rt, one, &mut first)?;
     rewrite_file(rt, other, &mut second)?;
-    text(rt, one)?;
-    text(rt, b" and ")?;
-    text(rt, other)?;
-    text(rt, b" rewritten: bytes that differ ")?;
-    size(rt, bytes_differing(&first, &second))?;
-    text(rt, b"\n")
+    rt.write_all(one)?;
+    print!(rt; " and ")?;
+    rt.write_all(other)?;
+    println!(rt;
+        " rewritten: bytes that differ {}",
+        count_differing(&first, &second)
+    )
 }

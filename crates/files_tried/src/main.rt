@@ -3,7 +3,6 @@
 
 mod compare;
 mod dress;
-mod input;
 mod lengths;
 mod lent;
 mod padded;
@@ -13,7 +12,7 @@ mod table;
 mod whole;
 
 use dress::compare_files;
-use input::read_file;
+use inputs::read_file;
 use lengths::try_lengths;
 use padded::{compare_inputs, try_inputs};
 use pulled::{compare_pulls, try_pulls};

@@ -1,10 +1,9 @@
 // Inputs as editors leave them through pad; form and references over the padded lines, and once rewrite.
-use crate::compare::bytes_differing;
+use crate::compare::count_differing;
 use crate::dress::rewrite_file;
-use crate::input::read_file;
 use crate::lent::{BYTE, WORD, show_changed_bytes};
-use crate::print::{show_checked, show_fault, size, text, word};
-use columns::parts::middle;
+use crate::print::{show_checked, show_fault};
+use inputs::read_file;
 use padding::Padded;
 use std::io;
 use std::rt::Files;
@@ -17,14 +16,11 @@ const ENOUGH: usize = 2673;
 
 // A mark stands at the end of each line, so that its blanks are seen.
 fn show_byte(rt: &impl Print, b: u8) -> io::Result<()> {
-    if b == 13 {
-        return text(rt, b"\\r");
+    match b {
+        b'\r' => rt.write_all(b"\\r"),
+        b'\n' => rt.write_all(b"|\n"),
+        _ => rt.write_all(&[b]),
     }
-    if b == 10 {
-        return text(rt, b"|\n");
-    }
-    let one = [b];
-    text(rt, &one)
 }
 
 pub(crate) fn show_lines(rt: &impl Print, part: &[u8]) -> io::Result<()> {
@@ -39,69 +35,59 @@ fn show_part(rt: &impl Print, part: &[u8]) -> io::Result<()> {
     if part.len() <= 324 {
         show_lines(rt, part)?;
     }
-    text(rt, b"form ")?;
-    let checked = walk::form(part);
-    show_checked(rt, checked)?;
+    print!(rt; "form ")?;
+    show_checked(rt, walk::form(part))?;
     let mut table = [WORD; 12000];
-    text(rt, b"references ")?;
+    print!(rt; "references ")?;
     let fault = walk::references(part, &mut table);
     show_fault(rt, fault)
 }
 
 // The lines are the first bytes of the output.
 fn show_padded(rt: &impl Print, lines: u32, out: &[u8]) -> io::Result<()> {
-    if lines <= 34 {
-        let n = 81 * (lines as usize);
-        if n <= out.len() {
-            show_part(rt, &out[0..n])?;
-        }
+    match out.get(..81 * lines as usize) {
+        Some(part) if lines <= 34 => show_part(rt, part),
+        _ => Ok(()),
     }
-    Ok(())
 }
 
 fn show_answer(rt: &impl Print, p: Padded) -> io::Result<()> {
-    text(rt, b"pad ")?;
+    print!(rt; "pad ")?;
     show_fault(rt, p.fault)?;
-    text(rt, b"lines ")?;
-    word(rt, p.lines)?;
-    text(rt, b"\n")
+    println!(rt; "lines {}", p.lines)
 }
 
 fn try_pad(rt: &impl Print, input: &[u8], out: &mut [u8]) -> io::Result<()> {
     let p = padding::pad(input, out);
     show_answer(rt, p)?;
-    text(rt, b"bytes of the output: ")?;
+    print!(rt; "bytes of the output: ")?;
     show_changed_bytes(rt, out)?;
     if p.fault.number == 0 {
         show_padded(rt, p.lines, out)?;
     }
-    text(rt, b"\n")
+    println!(rt)
 }
 
-// Lends so many bytes of the space.
-fn try_room(rt: &impl Print, input: &[u8], n: usize, space: &mut [u8]) -> io::Result<()> {
-    if n <= space.len() {
-        try_pad(rt, input, &mut space[0..n])?;
+// Lends so many bytes of a space.
+fn try_room(rt: &impl Print, input: &[u8], n: usize) -> io::Result<()> {
+    let mut space = [BYTE; ROOM];
+    match space.get_mut(..n) {
+        Some(out) => try_pad(rt, input, out),
+        None => Ok(()),
     }
-    Ok(())
 }
 
 fn try_input(rt: &(impl Files + Print + Eprint), path: &[u8], room: usize) -> io::Result<()> {
     let mut space = [0u8; 65536];
     let n = read_file(rt, path, &mut space)?;
-    text(rt, b"input ")?;
-    text(rt, path)?;
-    text(rt, b", bytes ")?;
-    size(rt, n)?;
-    text(rt, b", output ")?;
-    size(rt, room)?;
-    text(rt, b"\n")?;
-    let mut out = [BYTE; ROOM];
-    try_room(rt, &space[..n], room, &mut out)
+    print!(rt; "input ")?;
+    rt.write_all(path)?;
+    println!(rt; ", bytes {n}, output {room}")?;
+    try_room(rt, &space[..n], room)
 }
 
 pub(crate) fn try_inputs(rt: &(impl Files + Print + Eprint)) -> io::Result<()> {
-    text(rt, b"\n")?;
+    println!(rt)?;
     try_input(rt, b"padding_trimmed_lf.bfile", ROOM)?;
     try_input(rt, b"padding_trimmed_cr_lf.bfile", ROOM)?;
     try_input(rt, b"padding_trimmed_mixed.bfile", ROOM)?;
@@ -124,14 +110,8 @@ fn pad_file(rt: &(impl Files + Eprint), path: &[u8], out: &mut [u8; 65536]) -> i
     Ok(())
 }
 
-pub(crate) fn show_differing(
-    rt: &impl Print,
-    one: &[u8; 65536],
-    other: &[u8; 65536],
-) -> io::Result<()> {
-    text(rt, b": bytes that differ ")?;
-    size(rt, bytes_differing(one, other))?;
-    text(rt, b"\n")
+pub(crate) fn show_differing(rt: &impl Print, one: &[u8], other: &[u8]) -> io::Result<()> {
+    println!(rt; ": bytes that differ {}", count_differing(one, other))
 }
 
 fn compare_padded(rt: &(impl Files + Print + Eprint), input: &[u8], file: &[u8]) -> io::Result<()> {
@@ -139,15 +119,15 @@ fn compare_padded(rt: &(impl Files + Print + Eprint), input: &[u8], file: &[u8])
     let mut second = [BYTE; 65536];
     pad_file(rt, input, &mut first)?;
     read_file(rt, file, &mut second)?;
-    text(rt, input)?;
-    text(rt, b" padded and ")?;
-    text(rt, file)?;
+    rt.write_all(input)?;
+    print!(rt; " padded and ")?;
+    rt.write_all(file)?;
     show_differing(rt, &first, &second)
 }
 
 fn rewrite_lines(rt: &impl Print, lines: &[u8; 65536], out: &mut [u8; 65536]) -> io::Result<()> {
     let mut table = [WORD; 12000];
-    let checked = rewriting::rewrite(middle(lines, 0, ENOUGH), &mut table, out);
+    let checked = rewriting::rewrite(&lines[..ENOUGH], &mut table, out);
     show_checked(rt, checked)
 }
 
@@ -158,8 +138,8 @@ fn rewrite_padded(
 ) -> io::Result<()> {
     let mut lines = [BYTE; 65536];
     pad_file(rt, input, &mut lines)?;
-    text(rt, input)?;
-    text(rt, b" padded, rewrite ")?;
+    rt.write_all(input)?;
+    print!(rt; " padded, rewrite ")?;
     rewrite_lines(rt, &lines, out)
 }
 
@@ -172,9 +152,9 @@ fn compare_rewritten(
     let mut second = [BYTE; 65536];
     rewrite_padded(rt, input, &mut first)?;
     rewrite_file(rt, file, &mut second)?;
-    text(rt, b"and ")?;
-    text(rt, file)?;
-    text(rt, b" rewritten")?;
+    print!(rt; "and ")?;
+    rt.write_all(file)?;
+    print!(rt; " rewritten")?;
     show_differing(rt, &first, &second)
 }
 

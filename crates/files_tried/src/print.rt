@@ -2,49 +2,24 @@
 use kinds::{Checked, Fault};
 use std::io;
 
-pub(crate) fn text(rt: &impl Print, t: &[u8]) -> io::Result<()> {
-    rt.write_all(t)
-}
-
-pub(crate) fn number(rt: &impl Print, n: u64) -> io::Result<()> {
-    print!(rt; "{n}")
-}
-
-pub(crate) fn size(rt: &impl Print, n: usize) -> io::Result<()> {
-    number(rt, n as u64)
-}
-
-pub(crate) fn word(rt: &impl Print, n: u32) -> io::Result<()> {
-    number(rt, n as u64)
-}
-
 pub(crate) fn show_fault(rt: &impl Print, f: Fault) -> io::Result<()> {
-    text(rt, b"fault ")?;
-    word(rt, f.number)?;
-    text(rt, b" record ")?;
-    size(rt, f.record)?;
-    text(rt, b" column ")?;
-    size(rt, f.column)?;
-    text(rt, b"\n")
+    println!(rt;
+        "fault {} record {} column {}",
+        f.number, f.record, f.column
+    )
 }
 
-fn show_count(rt: &impl Print, n: u32) -> io::Result<()> {
-    text(rt, b" ")?;
-    word(rt, n)
-}
-
-// In the order AA 10 11 12 25 26 27 70 72 80 86 91 92 93.
-fn show_counts(rt: &impl Print, counts: &[u32; 14]) -> io::Result<()> {
-    text(rt, b"counts")?;
-    for n in counts {
-        show_count(rt, *n)?;
+// The numbers behind what was printed of the line, each after a blank.
+pub(crate) fn show_numbers(rt: &impl Print, numbers: &[u32]) -> io::Result<()> {
+    for n in numbers {
+        print!(rt; " {n}")?;
     }
-    text(rt, b"\n")
+    println!(rt)
 }
 
+// The counts are in the order AA 10 11 12 25 26 27 70 72 80 86 91 92 93.
 pub(crate) fn show_checked(rt: &impl Print, c: Checked) -> io::Result<()> {
-    let fault = c.fault;
-    let counts = c.counts;
-    show_fault(rt, fault)?;
-    show_counts(rt, &counts)
+    show_fault(rt, c.fault)?;
+    print!(rt; "counts")?;
+    show_numbers(rt, &c.counts)
 }

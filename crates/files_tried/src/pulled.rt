@@ -1,10 +1,9 @@
 // Records pulled by their numbers from files that are accepted and from others; all records of a file pulled in order, and the file rewritten.
 use crate::dress::rewrite_file;
-use crate::input::read_file;
 use crate::lent::{BYTE, WORD, show_changed_bytes};
 use crate::padded::{show_differing, show_lines};
-use crate::print::{show_fault, size, text, word};
-use columns::parts::middle;
+use crate::print::{show_fault, show_numbers};
+use inputs::read_file;
 use reading::lines::count_begun;
 use std::io;
 use std::rt::Files;
@@ -16,24 +15,10 @@ const PLACES: usize = 65;
 
 const ROOM: usize = 5265;
 
-fn show_word(rt: &impl Print, n: u32) -> io::Result<()> {
-    text(rt, b" ")?;
-    word(rt, n)
-}
-
-fn show_words(rt: &impl Print, words: &[u32]) -> io::Result<()> {
-    for n in words {
-        show_word(rt, *n)?;
-    }
-    text(rt, b"\n")
-}
-
 // Of a refused call nothing is to be seen but what was lent.
 fn show_pulled(rt: &impl Print, number: u32, entries: usize, out: &[u8]) -> io::Result<()> {
-    if number == 0 {
-        if entries <= MOST {
-            show_lines(rt, middle(out, 0, 81 * entries))?;
-        }
+    if number == 0 && entries <= MOST {
+        show_lines(rt, &out[..out.len().min(81 * entries)])?;
     }
     Ok(())
 }
@@ -46,33 +31,30 @@ fn try_lent(
     faults: &mut [u32],
 ) -> io::Result<()> {
     let p = pulling::pull(file, records, out, faults);
-    let fault = p.fault;
-    text(rt, b"pull ")?;
-    show_fault(rt, fault)?;
-    text(rt, b"fault list")?;
-    show_words(rt, faults)?;
-    text(rt, b"bytes of the output: ")?;
+    print!(rt; "pull ")?;
+    show_fault(rt, p.fault)?;
+    print!(rt; "fault list")?;
+    show_numbers(rt, faults)?;
+    print!(rt; "bytes of the output: ")?;
     show_changed_bytes(rt, out)?;
-    show_pulled(rt, fault.number, records.len(), out)?;
-    text(rt, b"\n")
+    show_pulled(rt, p.fault.number, records.len(), out)?;
+    println!(rt)
 }
 
-// Lends so many bytes of the space and so many places of the list.
+// Lends so many bytes of a space and so many places of a list.
 fn try_lengths(
     rt: &impl Print,
     file: &[u8],
     records: &[u32],
     room: usize,
     places: usize,
-    space: &mut [u8],
-    list: &mut [u32],
 ) -> io::Result<()> {
-    if room <= space.len() {
-        if places <= list.len() {
-            try_lent(rt, file, records, &mut space[0..room], &mut list[0..places])?;
-        }
+    let mut space = [BYTE; ROOM];
+    let mut list = [WORD; PLACES];
+    match (space.get_mut(..room), list.get_mut(..places)) {
+        (Some(out), Some(faults)) => try_lent(rt, file, records, out, faults),
+        _ => Ok(()),
     }
-    Ok(())
 }
 
 fn try_pull(
@@ -84,21 +66,11 @@ fn try_pull(
 ) -> io::Result<()> {
     let mut space = [0u8; 65536];
     let n = read_file(rt, path, &mut space)?;
-    text(rt, b"pulled from ")?;
-    text(rt, path)?;
-    text(rt, b", records")?;
-    show_words(rt, records)?;
-    let mut out = [BYTE; ROOM];
-    let mut faults = [WORD; PLACES];
-    try_lengths(
-        rt,
-        &space[..n],
-        records,
-        room,
-        places,
-        &mut out,
-        &mut faults,
-    )
+    print!(rt; "pulled from ")?;
+    rt.write_all(path)?;
+    print!(rt; ", records")?;
+    show_numbers(rt, records)?;
+    try_lengths(rt, &space[..n], records, room, places)
 }
 
 // With three bytes and two places more than the entries need.
@@ -156,7 +128,7 @@ fn try_empty(rt: &(impl Files + Print + Eprint)) -> io::Result<()> {
 }
 
 pub(crate) fn try_pulls(rt: &(impl Files + Print + Eprint)) -> io::Result<()> {
-    text(rt, b"\n")?;
+    println!(rt)?;
     try_all_kinds(rt)?;
     try_refused_files(rt)?;
     try_refused_records(rt)?;
@@ -164,30 +136,27 @@ pub(crate) fn try_pulls(rt: &(impl Files + Print + Eprint)) -> io::Result<()> {
 }
 
 // The numbers from 1 on.
-fn number_all(list: &mut [u32; MOST]) {
-    for i in 0..MOST {
-        list[i] = i as u32 + 1;
+fn number_all() -> [u32; MOST] {
+    let mut list = [0u32; MOST];
+    for (place, n) in list.iter_mut().zip(1..) {
+        *place = n;
     }
+    list
 }
 
-fn pull_first(file: &[u8], list: &[u32], out: &mut [u8; 65536]) {
-    let n = count_begun(file);
-    if n <= list.len() {
+// All records of a file of so few.
+fn pull_list(file: &[u8], out: &mut [u8; 65536]) {
+    let list = number_all();
+    if let Some(records) = list.get(..count_begun(file)) {
         let mut faults = [WORD; MOST];
-        pulling::pull(file, &list[0..n], out, &mut faults);
+        pulling::pull(file, records, out, &mut faults);
     }
-}
-
-fn pull_list(file: &[u8], list: &[u32; MOST], out: &mut [u8; 65536]) {
-    pull_first(file, list, out);
 }
 
 fn pull_all(rt: &(impl Files + Eprint), path: &[u8], out: &mut [u8; 65536]) -> io::Result<()> {
     let mut space = [0u8; 65536];
     let n = read_file(rt, path, &mut space)?;
-    let mut list = [0u32; MOST];
-    number_all(&mut list);
-    pull_list(&space[..n], &list, out);
+    pull_list(&space[..n], out);
     Ok(())
 }
 
@@ -196,8 +165,8 @@ fn compare_pulled(rt: &(impl Files + Print + Eprint), path: &[u8]) -> io::Result
     let mut second = [BYTE; 65536];
     pull_all(rt, path, &mut first)?;
     rewrite_file(rt, path, &mut second)?;
-    text(rt, path)?;
-    text(rt, b", all records pulled and rewritten")?;
+    rt.write_all(path)?;
+    print!(rt; ", all records pulled and rewritten")?;
     show_differing(rt, &first, &second)
 }
 

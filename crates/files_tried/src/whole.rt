@@ -1,21 +1,17 @@
 // One file through form, references and rewrite, with a word more of table and a record more of output than they need.
-use crate::compare::words_differing;
-use crate::lent::{BYTE, WORD, show_kept_bytes};
-use crate::print::{number, show_checked, show_fault, size, text};
+use crate::compare::count_differing;
+use crate::lent::{BYTE, WORD, show_kept};
+use crate::print::{show_checked, show_fault};
 use crate::table::show_table;
 use kinds::Fault;
 use std::io;
-
-fn wide(byte: u8) -> u64 {
-    byte as u64
-}
 
 // The sum of the sums of the bytes up to each: another byte or another order gives another one.
 fn sum_of_sums(part: &[u8]) -> u64 {
     let mut sum: u64 = 0;
     let mut sums: u64 = 0;
     for byte in part {
-        sum = sum.wrapping_add(wide(*byte));
+        sum = sum.wrapping_add(u64::from(*byte));
         sums = sums.wrapping_add(sum);
     }
     sums
@@ -23,23 +19,23 @@ fn sum_of_sums(part: &[u8]) -> u64 {
 
 // A file of up to fifty records is printed whole; of a longer one the sum has to do.
 fn show_rewritten(rt: &impl Print, part: &[u8]) -> io::Result<()> {
-    text(rt, b"rewritten bytes ")?;
-    size(rt, part.len())?;
-    text(rt, b", sum of sums ")?;
-    number(rt, sum_of_sums(part))?;
-    text(rt, b"\n")?;
+    println!(rt;
+        "rewritten bytes {}, sum of sums {}",
+        part.len(),
+        sum_of_sums(part)
+    )?;
     if part.len() <= 4050 {
-        text(rt, part)?;
+        rt.write_all(part)?;
     }
     Ok(())
 }
 
 // On acceptance the output starts with the rewritten file and stays beyond it.
 fn show_written(rt: &impl Print, n: usize, out: &[u8]) -> io::Result<()> {
-    if n <= out.len() {
-        show_rewritten(rt, &out[0..n])?;
-        text(rt, b"bytes beyond: ")?;
-        show_kept_bytes(rt, &out[n..])?;
+    if let Some((part, beyond)) = out.split_at_checked(n) {
+        show_rewritten(rt, part)?;
+        print!(rt; "bytes beyond: ")?;
+        show_kept(rt, beyond, BYTE)?;
     }
     Ok(())
 }
@@ -47,22 +43,20 @@ fn show_written(rt: &impl Print, n: usize, out: &[u8]) -> io::Result<()> {
 // A refusal leaves all of the output as it was.
 fn show_output(rt: &impl Print, fault: Fault, n: usize, out: &[u8]) -> io::Result<()> {
     if fault.number == 0 {
-        show_written(rt, n, out)?;
+        show_written(rt, n, out)
     } else {
-        text(rt, b"bytes of the output: ")?;
-        show_kept_bytes(rt, out)?;
+        print!(rt; "bytes of the output: ")?;
+        show_kept(rt, out, BYTE)
     }
-    Ok(())
 }
 
 fn try_form(rt: &impl Print, file: &[u8]) -> io::Result<()> {
-    text(rt, b"form ")?;
-    let checked = walk::form(file);
-    show_checked(rt, checked)
+    print!(rt; "form ")?;
+    show_checked(rt, walk::form(file))
 }
 
 fn try_references(rt: &impl Print, file: &[u8], table: &mut [u32; 12001]) -> io::Result<()> {
-    text(rt, b"references ")?;
+    print!(rt; "references ")?;
     let fault = walk::references(file, table);
     show_fault(rt, fault)?;
     show_table(rt, table)
@@ -75,22 +69,21 @@ fn try_rewrite(
     out: &mut [u8],
 ) -> io::Result<()> {
     let mut table = [WORD; 12001];
-    text(rt, b"rewrite ")?;
+    print!(rt; "rewrite ")?;
     let checked = rewriting::rewrite(file, &mut table, out);
     show_checked(rt, checked)?;
-    text(rt, b"words other than after references: ")?;
-    size(rt, words_differing(&table, before))?;
-    text(rt, b"\n")?;
-    let fault = checked.fault;
-    show_output(rt, fault, file.len(), out)
+    println!(rt;
+        "words other than after references: {}",
+        count_differing(&table, before)
+    )?;
+    show_output(rt, checked.fault, file.len(), out)
 }
 
 // The output has room for one record more than the file.
 fn try_part(rt: &impl Print, file: &[u8], before: &[u32; 12001], out: &mut [u8]) -> io::Result<()> {
     if file.len() <= 262144 {
-        let end = file.len() + 81;
-        if end <= out.len() {
-            try_rewrite(rt, file, before, &mut out[0..end])?;
+        if let Some(part) = out.get_mut(..file.len() + 81) {
+            try_rewrite(rt, file, before, part)?;
         }
     }
     Ok(())
@@ -105,11 +98,9 @@ fn try_calls(rt: &impl Print, file: &[u8]) -> io::Result<()> {
 }
 
 pub(crate) fn try_whole(rt: &impl Print, name: &[u8], file: &[u8]) -> io::Result<()> {
-    text(rt, b"file ")?;
-    text(rt, name)?;
-    text(rt, b", bytes ")?;
-    size(rt, file.len())?;
-    text(rt, b"\n")?;
+    print!(rt; "file ")?;
+    rt.write_all(name)?;
+    println!(rt; ", bytes {}", file.len())?;
     try_calls(rt, file)?;
-    text(rt, b"\n")
+    println!(rt)
 }

@@ -1,17 +1,23 @@
 -- Texts laid one after another, and numbers without zeros in front. Assumes nothing.
-use mathlib.Core.Path.{◌≡◌, refl, sym, ◌∙◌, ap}
-use mathlib.Core.Bool.{cond}
+use mathlib.Core.Path.{◌≡◌, refl, sym, ◌∙◌, ap, subst}
+use mathlib.Core.Bool.{Bool, true, false, cond, not}
 use mathlib.Core.List.{List, [], ◌∷◌, ◌++◌, append_assoc}
-use Prim.Native.Nat.{ℕ, suc, ◌+◌, ◌-◌, ◌≤◌, ◌<◌}
+use Prim.Native.Nat.{ℕ, zero, suc, ◌+◌, ◌-◌, ◌≤◌, ◌<◌}
 use native.Mathlib.Nat.{add-sub_cancel_left}
 use native.Mathlib.Numerals.{add-one}
 use native.Mathlib.Omega.{arith}
-use lib.ListN.{length, take, drop, get_or, set, length-append, length-drop}
-use lib.Seq.{length-take-le, take_at, take_all, drop-drop, drop-append-add, drop-cons, set_split}
+use lib.Dec.{eqb}
+use lib.ListN.{length, take, drop, set, length-append, length-drop}
+use lib.Seq.{length-take-le, take_at, take_all, drop-drop, drop-append-add, set_split}
 use borrow.Rule.Slice.PartMut.{mid_of, put_mid}
 use Rattle.rules.specs.Tests.{◌=?◌}
 use Rattle.rules.specs.Digits.{put, stripped, numeral}
-use Rattle.rules.proofs.Truth.{of≡, of≢}
+use Rattle.std.specs.List.{position_or_len, position}
+use Rattle.std.specs.Option.{unwrap_or}
+use Rattle.std.specs.declared.option.Option.{Option}
+use Rattle.std.proofs.Common.{nat_lt}
+use Rattle.std.proofs.lemmas.List.Sums.{prefix_len-le-length}
+use Rattle.rules.proofs.Truth.{of≡, cases}
 use Rattle.rules.proofs.DigitLaws.{length-put}
 use Rattle.listing.specs.Laying.{laid, Laid, Zeros}
 
@@ -65,29 +71,49 @@ text-laid at text out last h e =
     record { ends = refl; short = omega arith; output = put-laid at text out last (e ∙ rw (of≡ (sym wide))) }
 
 -- ---- zeros in front
-stays : (d : List ℕ) → length d ≤ 1 → stripped d ≡ d
+-- another digit than 0
+abbrev pub is_other : ℕ → Bool
+is_other b = not (eqb b 48)
+
+module _ (b c : ℕ) (d : List ℕ) where
+  zero_in_front : eqb b 48 ≡ true → stripped (b ∷ c ∷ d) ≡ stripped (c ∷ d)
+  unfolding stripped ◌=?◌
+  zero_in_front h = rw h refl
+
+  other_in_front : eqb b 48 ≡ false → stripped (b ∷ c ∷ d) ≡ b ∷ c ∷ d
+  unfolding stripped ◌=?◌
+  other_in_front h = rw h refl
+
+  zeros_one_more : (k : ℕ) → eqb b 48 ≡ true → Zeros (c ∷ d) k → Zeros (b ∷ c ∷ d) (1 + k)
+  zeros_one_more k h z =
+      let s : 1 + k ≡ suc k = omega arith in
+      record { within = omega (arith, z.within); rest = ap (λ i. drop i (b ∷ c ∷ d)) s ∙ z.rest ∙ sym (zero_in_front h) }
+
+  zeros_none : eqb b 48 ≡ false → Zeros (b ∷ c ∷ d) 0
+  zeros_none h = record { within = omega arith; rest = sym (other_in_front h) }
+
+-- the first place of another digit, the last digit left out, which stays whatever it is
+first_other : (d : List ℕ) (n : ℕ) → n ≡ length d - 1 → Zeros d (position_or_len is_other (take n d))
 unfolding stripped
-stays [] p = refl
-stays (b ∷ []) p = refl
-stays (b ∷ c ∷ d) p = absurd (omega arith)
+first_other [] zero e = record { within = omega arith; rest = refl }
+first_other [] (suc n) e = absurd (omega arith)
+first_other (b ∷ []) zero e = record { within = omega arith; rest = refl }
+first_other (b ∷ []) (suc n) e = absurd (omega arith)
+first_other (b ∷ c ∷ d) zero e = absurd (omega arith)
+first_other (b ∷ c ∷ d) (suc n) e =
+    cases (eqb b 48) (λ h. rw h (zeros_one_more b c d _ h (first_other (c ∷ d) n (omega arith)))) (λ h. rw h (zeros_none b c d h))
 
-module _ (l : List ℕ) (i : ℕ) (e : stripped (drop i l) ≡ stripped l) where
-  pair : i + 1 < length l → drop i l ≡ get_or l i 0 ∷ get_or l (suc i) 0 ∷ drop (suc (suc i)) l
-  pair h = drop-cons l i 0 (omega arith) ∙ ap (λ t. get_or l i 0 ∷ t) (drop-cons l (suc i) 0 (omega arith))
-
-  next : i + 1 < length l → drop (i + 1) l ≡ get_or l (suc i) 0 ∷ drop (suc (suc i)) l
-  next h = rw add-one (drop-cons l (suc i) 0 (omega arith))
-
-  pub zeros_on_lem : i + 1 < length l → get_or l i 0 ≡ 48 → stripped (drop (i + 1) l) ≡ stripped l
-  unfolding stripped
-  zeros_on_lem h z = rw (next h) (sym (rw (of≡ z) at (ap stripped (pair h))) ∙ e)
-
-  pub zeros_found : i + 1 < length l → (get_or l i 0 ≡ 48 → ⊥) → Zeros l i
-  unfolding stripped
-  zeros_found h z = record { within = omega arith; rest = pair h ∙ sym (rw (of≢ z) at (ap stripped (pair h))) ∙ e }
-
-  pub zeros_end : i ≤ length l → length l ≤ i + 1 → Zeros l i
-  zeros_end h k = record { within = h; rest = sym (stays (drop i l) (rw length-drop (omega arith))) ∙ e }
+-- `unwrap_or` of what `position` answers
+pub zeros_first : (d : List ℕ) (n : ℕ) (p : Option ℕ) → n ≡ length d - 1 → p ≡ position is_other (take n d) → Zeros d (unwrap_or p n)
+zeros_first d n p e q = rw q (cases (nat_lt (position_or_len is_other (take n d)) (length (take n d)))
+    (λ h. rw h (first_other d n e))
+    (λ h. rw h (subst (Zeros d) (none_other h) (first_other d n e))))
+  where
+    none_other : nat_lt (position_or_len is_other (take n d)) (length (take n d)) ≡ false → position_or_len is_other (take n d) ≡ n
+    none_other h =
+        let t : length (take n d) ≡ n = length-take-le n d (omega arith) in
+        let m : position_or_len is_other (take n d) ≤ length (take n d) = prefix_len-le-length _ (take n d) in
+        grind (arith, t, m, h)
 
 -- ---- a number and the byte behind it
 pub byte_laid : (e mark : ℕ) (mid : List ℕ) → e < length mid → Laid e 1 (mark ∷ []) mid (e + 1) (set mid e mark)

@@ -7,18 +7,12 @@ ghost use Rattle.listing.specs.Listing.{kind_line, name_bytes};
 use crate::words::{lay_number, lay_text};
 use kinds::Fault;
 
-const TAB: u8 = 9;
+const TAB: u8 = b'\t';
 
-const LINE_FEED: u8 = 10;
+const LINE_FEED: u8 = b'\n';
 
 // The two characters of each kind's name, one kind after another.
 const NAMES: [u8; 28] = *b"AA10111225262770728086919293";
-
-fn size(n: u32) -> usize
-    ensures { result ≡ n }
-{
-    n as usize
-}
 
 fn name_byte(i: usize) -> u8
     requires { i < 28 }
@@ -32,10 +26,11 @@ pub(crate) fn list_file(out: &mut [u8], blocks: usize, fault: Fault) -> usize
     ensures { Laid 0 49 (file_line blocks fault.number fault.«record» fault.column) out.old result out.new }
 {
     let at = lay_text(out, 0, b"FILE\t");
-    let at = lay_number(out, at, blocks, TAB);
-    let at = lay_number(out, at, size(fault.number), TAB);
-    let at = lay_number(out, at, fault.record, TAB);
-    lay_number(out, at, fault.column, LINE_FEED)
+    // Kept `as`: there is no `From` between usize and u64.
+    let at = lay_number(out, at, blocks as u64, TAB);
+    let at = lay_number(out, at, u64::from(fault.number), TAB);
+    let at = lay_number(out, at, fault.record as u64, TAB);
+    lay_number(out, at, fault.column as u64, LINE_FEED)
 }
 
 fn list_kind(out: &mut [u8], at: usize, kind: usize, count: u32) -> usize
@@ -46,7 +41,7 @@ fn list_kind(out: &mut [u8], at: usize, kind: usize, count: u32) -> usize
     let second = name_byte(2 * kind + 1);
     let word = [b'K', b'I', b'N', b'D', TAB, first, second, TAB];
     let end = lay_text(out, at, &word);
-    lay_number(out, end, size(count), LINE_FEED)
+    lay_number(out, end, u64::from(count), LINE_FEED)
 }
 
 pub(crate) fn list_kinds(out: &mut [u8], from: usize, counts: [u32; 14]) -> usize
@@ -54,10 +49,8 @@ pub(crate) fn list_kinds(out: &mut [u8], from: usize, counts: [u32; 14]) -> usiz
     ensures { Laid from 266 (kind_lines kind_names counts) out.old result out.new }
 {
     let mut at = from;
-    let mut kind: usize = 0;
-    while kind < 14 {
-        at = list_kind(out, at, kind, counts[kind]);
-        kind += 1;
+    for (kind, &count) in counts.iter().enumerate() {
+        at = list_kind(out, at, kind, count);
     }
     at
 }

@@ -18,26 +18,22 @@ pub(crate) fn lay_text(out: &mut [u8], at: usize, text: &[u8]) -> usize
 fn count_zeros(digits: &[u8]) -> usize
     ensures { Zeros digits.now result }
 {
-    let n = digits.len();
-    let mut i: usize = 0;
-    while i + 1 < n {
-        if digits[i] != b'0' {
-            return i;
-        }
-        i += 1;
-    }
-    i
+    let last = digits.len().saturating_sub(1);
+    digits[..last]
+        .iter()
+        .position(|digit| *digit != b'0')
+        .unwrap_or(last)
 }
 
 // A number without zeros in front, and the byte that parts it from what follows. Ten digits are enough for every number of a sheet.
-pub(crate) fn lay_number(out: &mut [u8], at: usize, n: usize, mark: u8) -> usize
+pub(crate) fn lay_number(out: &mut [u8], at: usize, n: u64, mark: u8) -> usize
     requires { at + 11 ≤ length out.old }
     ensures { Laid at 11 (numeral n ++ mark ∷ []) out.old result out.new }
 {
     let mut digits = [0u8; 10];
-    put_digits(&mut digits, n as u64);
+    put_digits(&mut digits, n);
     let zeros = count_zeros(&digits);
-    let end = lay_text(out, at, &digits[zeros..10]);
+    let end = lay_text(out, at, &digits[zeros..]);
     out[end] = mark;
     end + 1
 }

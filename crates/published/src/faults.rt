@@ -1,33 +1,26 @@
 // A refusal as an answer, or what was written where there is none.
-use crate::text::{SPACE, lay, lay_columns, lay_number};
+use crate::text::{Text, lay_columns};
 use kinds::Fault;
+use std::io;
+use std::io::Write;
 
-pub(crate) const ACCEPTED: Fault = Fault {
-    number: 0,
-    record: 0,
-    column: 0,
-};
-
-fn lay_named(out: &mut [u8; SPACE], at: usize, name: &[u8], n: u64) -> usize {
-    let behind = lay(out, at, name);
-    lay_number(out, behind, n)
-}
-
-pub(crate) fn lay_fault(out: &mut [u8; SPACE], f: Fault) -> usize {
-    let record = lay_named(out, 0, b"fault ", f.number as u64);
-    let column = lay_named(out, record, b" record ", f.record as u64);
-    lay_named(out, column, b" column ", f.column as u64)
+pub(crate) fn lay_fault(out: &mut Text, f: Fault) -> io::Result<()> {
+    write!(
+        out,
+        "fault {} record {} column {}",
+        f.number, f.record, f.column
+    )
 }
 
 pub(crate) fn lay_outcome(
-    out: &mut [u8; SPACE],
-    f: Fault,
-    from: &[u8; SPACE],
+    out: &mut Text,
+    outcome: Result<(), Fault>,
+    from: &[u8],
     start: usize,
     width: usize,
-) -> usize {
-    if f.number == 0 {
-        return lay_columns(out, from, start, width);
+) -> io::Result<()> {
+    match outcome {
+        Ok(()) => lay_columns(out, from, start, width),
+        Err(f) => lay_fault(out, f),
     }
-    lay_fault(out, f)
 }

@@ -1,60 +1,50 @@
 // What is printed: a line for each example.
-use crate::cells::{CALL, GIVEN, NAME, SHOULD, cell};
-use std::io;
+use crate::cells::Example;
+use std::{fmt, io};
 
-fn text(rt: &impl Print, t: &[u8]) -> io::Result<()> {
-    rt.write_all(t)
+// How many examples were run, and how many of them came out otherwise than they should.
+#[derive(Clone, Copy, Default)]
+pub(crate) struct Tally {
+    run: u64,
+    differ: u64,
+}
+
+impl Tally {
+    pub(crate) fn count(&mut self, is_same: bool) {
+        self.run = self.run.wrapping_add(1);
+        self.differ = self.differ.wrapping_add(u64::from(!is_same));
+    }
+}
+
+impl fmt::Display for Tally {
+    fn fmt<W: fmt::Write>(&self, f: &mut fmt::Formatter<W>) -> fmt::Result {
+        write!(f, "{} examples, {} differ", self.run, self.differ)
+    }
 }
 
 // The columns given, where there are any.
 fn show_given(rt: &impl Print, given: &[u8]) -> io::Result<()> {
-    if 0 < given.len() {
-        text(rt, b" `")?;
-        text(rt, given)?;
-        text(rt, b"`")?;
+    if !given.is_empty() {
+        print!(rt; " `")?;
+        rt.write_all(given)?;
+        print!(rt; "`")?;
     }
     Ok(())
 }
 
-fn show_name(rt: &impl Print, line: &[u8]) -> io::Result<()> {
-    text(rt, cell(line, NAME))?;
-    text(rt, b", ")?;
-    text(rt, cell(line, CALL))?;
-    show_given(rt, cell(line, GIVEN))?;
-    text(rt, b" | ")
-}
-
-fn show_verdict(rt: &impl Print, is_same: bool) -> io::Result<()> {
-    if is_same {
-        text(rt, b" | same\n")
-    } else {
-        text(rt, b" | DIFFERS\n")
-    }
-}
-
 pub(crate) fn show_example(
     rt: &impl Print,
-    line: &[u8],
+    example: &Example<'_>,
     came: &[u8],
     is_same: bool,
 ) -> io::Result<()> {
-    show_name(rt, line)?;
-    text(rt, came)?;
-    text(rt, b" | ")?;
-    text(rt, cell(line, SHOULD))?;
-    show_verdict(rt, is_same)
-}
-
-// Prints a heading as it stands; answers whether the line is one.
-pub(crate) fn show_heading(rt: &impl Print, line: &[u8]) -> io::Result<bool> {
-    if line.len() == 0 || line[0] != b'#' {
-        return Ok(false);
-    }
-    text(rt, line)?;
-    text(rt, b"\n")?;
-    Ok(true)
-}
-
-pub(crate) fn show_tally(rt: &impl Print, run: u64, differ: u64) -> io::Result<()> {
-    println!(rt; "{run} examples, {differ} differ")
+    rt.write_all(example.name)?;
+    print!(rt; ", ")?;
+    rt.write_all(example.call)?;
+    show_given(rt, example.given)?;
+    print!(rt; " | ")?;
+    rt.write_all(came)?;
+    print!(rt; " | ")?;
+    rt.write_all(example.should)?;
+    println!(rt; " | {}", if is_same { "same" } else { "DIFFERS" })
 }

@@ -1,66 +1,50 @@
 // The calls on one record: read, field and write.
 use crate::cells::Spot;
-use crate::faults::{ACCEPTED, lay_fault, lay_outcome};
-use crate::text::{SPACE, first, lay, lay_quoted, lay_whole};
+use crate::faults::{lay_fault, lay_outcome};
+use crate::text::{SPACE, Text, lay_quoted};
 use crate::values::{Value, read_value};
-use columns::Four;
-use kinds::{Factor, Fault, Heights, Local, Network, Point, Reading, Record, Title, Written};
+use kinds::{Factor, Fault, Heights, Local, Network, Point, Record, Title};
+use std::io;
+use std::io::Write;
 
-fn lay_code(out: &mut [u8; SPACE], t: Four, n: usize) -> usize {
-    let code = [t.0, t.1, t.2, t.3];
-    lay_quoted(out, 0, first(&code, n))
-}
-
-fn lay_value(out: &mut [u8; SPACE], v: Value) -> usize {
+fn lay_value(out: &mut Text, v: Value) -> io::Result<()> {
     match v {
-        Value::Refused(f) => lay_fault(out, f),
-        Value::Absent => lay(out, 0, b"no value"),
-        Value::Missing => lay(out, 0, b"missing"),
-        Value::Whole(negative, n) => lay_whole(out, negative, n),
-        Value::Code(t, n) => lay_code(out, t, n),
+        Value::Missing => out.write_all(b"missing"),
+        Value::Whole(n) => write!(out, "{n}"),
+        Value::One(byte) => lay_quoted(out, &[byte]),
+        Value::Two(t) => lay_quoted(out, &[t.0, t.1]),
+        Value::Four(t) => lay_quoted(out, &[t.0, t.1, t.2, t.3]),
     }
 }
 
-pub(crate) fn lay_read(out: &mut [u8; SPACE], file: &[u8], spot: Spot) -> usize {
-    let v = read_value(file, spot.record, spot.column);
-    lay_value(out, v)
-}
-
-pub(crate) fn lay_field(out: &mut [u8; SPACE], file: &[u8], spot: Spot) -> usize {
-    let part = reading::field(file, spot.record, spot.column);
-    lay_quoted(out, 0, part)
-}
-
-// Where the texts of more than four columns of a record start; 0 where there is none.
-#[derive(Clone, Copy)]
-struct Texts {
-    first: usize,
-    second: usize,
-}
-
-fn starts(first: usize, second: usize) -> Texts {
-    Texts {
-        first: first,
-        second: second,
+pub(crate) fn lay_read(out: &mut Text, file: &[u8], spot: Spot) -> io::Result<()> {
+    match read_value(file, spot.record, spot.column) {
+        Ok(Some(v)) => lay_value(out, v),
+        Ok(None) => out.write_all(b"no value"),
+        Err(f) => lay_fault(out, f),
     }
 }
 
-// No example writes a *12*, a *70* or a *72*. Every other kind has one text from column 11 on, or none, and then write takes no notice.
-fn texts_of(what: Record) -> Texts {
+pub(crate) fn lay_field(out: &mut Text, file: &[u8], spot: Spot) -> io::Result<()> {
+    lay_quoted(out, reading::field(file, spot.record, spot.column))
+}
+
+// Where the texts of more than four columns of a record start. No example writes a *12*, a *70* or a *72*. Every other kind has one text from column 11 on, or none, and then write takes no notice.
+fn texts_of(what: Record) -> [Option<usize>; 2] {
     match what {
-        Record::Point(r) => starts(Point::NAME, 0),
-        Record::Heights(r) => starts(Heights::ORGANIZATION, Heights::COMMENT),
-        Record::Network(r) => starts(Network::COMMENT, 0),
-        Record::Local(r) => starts(Local::COMMENT, 0),
-        Record::Factor(r) => starts(Factor::COMMENT, 0),
-        _ => starts(Title::TITLE, 0),
+        Record::Point(_) => [Some(Point::NAME), None],
+        Record::Heights(_) => [Some(Heights::ORGANIZATION), Some(Heights::COMMENT)],
+        Record::Network(_) => [Some(Network::COMMENT), None],
+        Record::Local(_) => [Some(Local::COMMENT), None],
+        Record::Factor(_) => [Some(Factor::COMMENT), None],
+        _ => [Some(Title::TITLE), None],
     }
 }
 
-fn fault_of(w: Written) -> Fault {
-    match w {
-        Written::Done => ACCEPTED,
-        Written::Refused(f) => f,
+fn text_at(file: &[u8], record: usize, start: Option<usize>) -> &[u8] {
+    match start {
+        Some(column) => reading::field(file, record, column),
+        None => b"",
     }
 }
 
@@ -71,23 +55,21 @@ fn write_values(
     record: usize,
     s: Option<u32>,
     what: Record,
-) -> Written {
-    let t = texts_of(what);
-    let first = reading::field(file, record, t.first);
-    let second = reading::field(file, record, t.second);
+) -> Result<(), Fault> {
+    let [first, second] = texts_of(what);
+    let first = text_at(file, record, first);
+    let second = text_at(file, record, second);
     writing::write(line, s, what, first, second, b"")
 }
 
-fn write_back(line: &mut [u8; SPACE], file: &[u8], record: usize) -> Fault {
-    match reading::read(file, record) {
-        Reading::Refused(f) => f,
-        Reading::Values(s, what) => fault_of(write_values(line, file, record, s, what)),
-    }
+fn write_back(line: &mut [u8; SPACE], file: &[u8], record: usize) -> Result<(), Fault> {
+    let (s, what) = reading::read(file, record)?;
+    write_values(line, file, record, s, what)
 }
 
 // The columns of the example as they are written from the values that were read.
-pub(crate) fn lay_written(out: &mut [u8; SPACE], file: &[u8], spot: Spot) -> usize {
+pub(crate) fn lay_written(out: &mut Text, file: &[u8], spot: Spot) -> io::Result<()> {
     let mut line = [b'.'; SPACE];
-    let f = write_back(&mut line, file, spot.record);
-    lay_outcome(out, f, &line, spot.start % 81, spot.width)
+    let outcome = write_back(&mut line, file, spot.record);
+    lay_outcome(out, outcome, &line, spot.start % 81, spot.width)
 }

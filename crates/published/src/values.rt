@@ -2,177 +2,134 @@
 use columns::Four;
 use kinds::{
     Antenna, Factor, Fault, Heights, Instrument, Job, Local, Measurement, Network, Occupation,
-    Point, Reading, Record, Two,
+    Point, Record, Two,
 };
 
 #[derive(Clone, Copy)]
 pub(crate) enum Value {
-    Refused(Fault),
-    Absent,
     Missing,
-    // Whether it is negative, and how far from zero.
-    Whole(bool, u64),
-    // The first so many of four characters.
-    Code(Four, usize),
+    Whole(i128),
+    // Codes of one, two and four characters.
+    One(u8),
+    Two(Two),
+    Four(Four),
 }
 
 // A job code has no column of its own among the fields: it is asked for by that of columns 7-10.
 const CODE: usize = 7;
 
-fn counted(n: u32) -> Value {
-    Value::Whole(false, n as u64)
-}
-
-fn millimetres(z: i32) -> Value {
-    signed(i64::from(z))
-}
-
-fn signed(z: i64) -> Value {
-    Value::Whole(z < 0, z.unsigned_abs())
+fn whole(n: impl Into<i128>) -> Value {
+    Value::Whole(n.into())
 }
 
 fn height(h: Option<i32>) -> Value {
     match h {
         None => Value::Missing,
-        Some(z) => millimetres(z),
+        Some(z) => whole(z),
     }
 }
 
-fn one(byte: u8) -> Value {
-    Value::Code(Four(byte, b' ', b' ', b' '), 1)
-}
-
-fn pair(t: Two) -> Value {
-    Value::Code(Four(t.0, t.1, b' ', b' '), 2)
-}
-
-fn of_job(r: Job, column: usize) -> Value {
-    if column == CODE {
-        return pair(Two(r.first, r.second));
-    }
-    Value::Absent
-}
-
-fn of_occupation(r: Occupation, column: usize) -> Value {
-    if column == Occupation::STATION {
-        return counted(r.station);
-    }
-    if column == Occupation::INSTRUMENT {
-        return counted(r.instrument);
-    }
-    if column == Occupation::ANTENNA {
-        return counted(r.antenna);
-    }
-    Value::Absent
-}
-
-fn of_measurement(r: Measurement, column: usize) -> Value {
-    if column == Measurement::STATION {
-        return counted(r.station);
-    }
-    if column == Measurement::HEIGHT {
-        return millimetres(r.height);
-    }
-    Value::Absent
-}
-
-fn of_instrument(r: Instrument, column: usize) -> Value {
-    if column == Instrument::INSTRUMENT {
-        return counted(r.instrument);
-    }
-    if column == Instrument::EQUIPMENT {
-        return counted(r.equipment);
-    }
-    Value::Absent
-}
-
-fn of_antenna(r: Antenna, column: usize) -> Value {
-    let radome = r.radome;
-    if column == Antenna::ANTENNA {
-        return counted(r.antenna);
-    }
-    if column == Antenna::RADOME {
-        return Value::Code(radome, 4);
-    }
-    Value::Absent
-}
-
-fn of_point(r: Point, column: usize) -> Value {
-    if column == Point::STATION {
-        return counted(r.station);
-    }
-    if column == Point::LATITUDE {
-        return signed(r.latitude);
-    }
-    if column == Point::LONGITUDE {
-        return signed(r.longitude);
-    }
-    Value::Absent
-}
-
-fn of_code(r: Heights, column: usize) -> Value {
-    let class = r.class;
-    let datum = r.datum;
+fn of_job(r: Job, column: usize) -> Option<Value> {
     match column {
-        Heights::CODE => one(r.code),
-        Heights::CLASS => pair(class),
-        Heights::INDICATOR => one(r.indicator),
-        Heights::DATUM => pair(datum),
-        Heights::GEOID_CODE => one(r.geoidcode),
-        Heights::ELLIPSOID_CODE => one(r.ellipsoidcode),
-        Heights::ELLIPSOID_DATUM => one(r.ellipsoiddatum),
-        _ => Value::Absent,
+        CODE => Some(Value::Two(Two(r.first, r.second))),
+        _ => None,
     }
 }
 
-fn of_heights(r: Heights, column: usize) -> Value {
-    let orthometric = r.orthometric;
-    let geoid = r.geoid;
-    let ellipsoid = r.ellipsoid;
+fn of_occupation(r: Occupation, column: usize) -> Option<Value> {
     match column {
-        Heights::STATION => counted(r.station),
-        Heights::ORTHOMETRIC => height(orthometric),
-        Heights::GEOID => height(geoid),
-        Heights::ELLIPSOID => height(ellipsoid),
-        _ => of_code(r, column),
+        Occupation::STATION => Some(whole(r.station)),
+        Occupation::INSTRUMENT => Some(whole(r.instrument)),
+        Occupation::ANTENNA => Some(whole(r.antenna)),
+        _ => None,
     }
 }
 
-fn of_network(r: Network, column: usize) -> Value {
+fn of_measurement(r: Measurement, column: usize) -> Option<Value> {
     match column {
-        Network::STATION => counted(r.station),
-        Network::NORTH => Value::Whole(false, r.north),
-        Network::EAST => Value::Whole(false, r.east),
-        Network::CORRELATION => signed(r.correlation),
-        Network::ELLIPSOID => Value::Whole(false, r.ellipsoid),
-        Network::SCALED => one(r.scaled),
-        _ => Value::Absent,
+        Measurement::STATION => Some(whole(r.station)),
+        Measurement::HEIGHT => Some(whole(r.height)),
+        _ => None,
     }
 }
 
-fn of_local(r: Local, column: usize) -> Value {
+fn of_instrument(r: Instrument, column: usize) -> Option<Value> {
     match column {
-        Local::STANDPOINT => counted(r.standpoint),
-        Local::FOREPOINT => counted(r.forepoint),
-        Local::NORTH => Value::Whole(false, r.north),
-        Local::EAST => Value::Whole(false, r.east),
-        Local::CORRELATION => signed(r.correlation),
-        Local::ELLIPSOID => Value::Whole(false, r.ellipsoid),
-        Local::SCALED => one(r.scaled),
-        _ => Value::Absent,
+        Instrument::INSTRUMENT => Some(whole(r.instrument)),
+        Instrument::EQUIPMENT => Some(whole(r.equipment)),
+        _ => None,
     }
 }
 
-fn of_factor(r: Factor, column: usize) -> Value {
+fn of_antenna(r: Antenna, column: usize) -> Option<Value> {
     match column {
-        Factor::HORIZONTAL => counted(r.horizontal),
-        Factor::VERTICAL => counted(r.vertical),
-        _ => Value::Absent,
+        Antenna::ANTENNA => Some(whole(r.antenna)),
+        Antenna::RADOME => Some(Value::Four(r.radome)),
+        _ => None,
+    }
+}
+
+fn of_point(r: Point, column: usize) -> Option<Value> {
+    match column {
+        Point::STATION => Some(whole(r.station)),
+        Point::LATITUDE => Some(whole(r.latitude)),
+        Point::LONGITUDE => Some(whole(r.longitude)),
+        _ => None,
+    }
+}
+
+fn of_heights(r: Heights, column: usize) -> Option<Value> {
+    match column {
+        Heights::STATION => Some(whole(r.station)),
+        Heights::ORTHOMETRIC => Some(height(r.orthometric)),
+        Heights::CODE => Some(Value::One(r.code)),
+        Heights::CLASS => Some(Value::Two(r.class)),
+        Heights::INDICATOR => Some(Value::One(r.indicator)),
+        Heights::DATUM => Some(Value::Two(r.datum)),
+        Heights::GEOID => Some(height(r.geoid)),
+        Heights::GEOID_CODE => Some(Value::One(r.geoidcode)),
+        Heights::ELLIPSOID => Some(height(r.ellipsoid)),
+        Heights::ELLIPSOID_CODE => Some(Value::One(r.ellipsoidcode)),
+        Heights::ELLIPSOID_DATUM => Some(Value::One(r.ellipsoiddatum)),
+        _ => None,
+    }
+}
+
+fn of_network(r: Network, column: usize) -> Option<Value> {
+    match column {
+        Network::STATION => Some(whole(r.station)),
+        Network::NORTH => Some(whole(r.north)),
+        Network::EAST => Some(whole(r.east)),
+        Network::CORRELATION => Some(whole(r.correlation)),
+        Network::ELLIPSOID => Some(whole(r.ellipsoid)),
+        Network::SCALED => Some(Value::One(r.scaled)),
+        _ => None,
+    }
+}
+
+fn of_local(r: Local, column: usize) -> Option<Value> {
+    match column {
+        Local::STANDPOINT => Some(whole(r.standpoint)),
+        Local::FOREPOINT => Some(whole(r.forepoint)),
+        Local::NORTH => Some(whole(r.north)),
+        Local::EAST => Some(whole(r.east)),
+        Local::CORRELATION => Some(whole(r.correlation)),
+        Local::ELLIPSOID => Some(whole(r.ellipsoid)),
+        Local::SCALED => Some(Value::One(r.scaled)),
+        _ => None,
+    }
+}
+
+fn of_factor(r: Factor, column: usize) -> Option<Value> {
+    match column {
+        Factor::HORIZONTAL => Some(whole(r.horizontal)),
+        Factor::VERTICAL => Some(whole(r.vertical)),
+        _ => None,
     }
 }
 
 // The other kinds have only texts, months and codes that no example asks for.
-fn of_record(what: Record, column: usize) -> Value {
+fn of_record(what: Record, column: usize) -> Option<Value> {
     match what {
         Record::Job(r) => of_job(r, column),
         Record::Occupation(r) => of_occupation(r, column),
@@ -184,31 +141,26 @@ fn of_record(what: Record, column: usize) -> Value {
         Record::Network(r) => of_network(r, column),
         Record::Local(r) => of_local(r, column),
         Record::Factor(r) => of_factor(r, column),
-        _ => Value::Absent,
+        _ => None,
     }
 }
 
 fn of_sequence(s: Option<u32>) -> Value {
     match s {
         None => Value::Missing,
-        Some(n) => counted(n),
+        Some(n) => whole(n),
     }
 }
 
-fn value_in(r: Reading, column: usize) -> Value {
-    match r {
-        Reading::Refused(f) => Value::Refused(f),
-        Reading::Values(s, what) => {
-            if column == Record::NUMBER {
-                of_sequence(s)
-            } else {
-                of_record(what, column)
-            }
-        }
+// Nothing where no value has the column.
+pub(crate) fn read_value(
+    file: &[u8],
+    record: usize,
+    column: usize,
+) -> Result<Option<Value>, Fault> {
+    let (s, what) = reading::read(file, record)?;
+    if column == Record::NUMBER {
+        return Ok(Some(of_sequence(s)));
     }
-}
-
-pub(crate) fn read_value(file: &[u8], record: usize, column: usize) -> Value {
-    let r = reading::read(file, record);
-    value_in(r, column)
+    Ok(of_record(what, column))
 }

@@ -1,80 +1,70 @@
 // The calls on a whole file: form, references, rewrite and the sheet's list.
 use crate::cells::Spot;
 use crate::faults::{lay_fault, lay_outcome};
-use crate::text::{SPACE, lay, lay_number, put, within};
+use crate::text::{SPACE, Text};
 use kinds::{Checked, Fault};
-
-fn lay_count(out: &mut [u8; SPACE], at: usize, n: u32) -> usize {
-    let behind = put(out, at, b' ');
-    lay_number(out, behind, n as u64)
-}
+use std::io;
+use std::io::Write;
 
 // In the order AA 10 11 12 25 26 27 70 72 80 86 91 92 93.
-fn lay_counts(out: &mut [u8; SPACE], counts: &[u32; 14]) -> usize {
-    let mut at = lay(out, 0, b"accepted, counts");
+fn lay_counts(out: &mut Text, counts: &[u32; 14]) -> io::Result<()> {
+    out.write_all(b"accepted, counts")?;
     for n in counts {
-        at = lay_count(out, at, *n);
+        write!(out, " {n}")?;
     }
-    at
+    Ok(())
 }
 
-fn lay_verdict(out: &mut [u8; SPACE], c: Checked) -> usize {
-    let fault = c.fault;
-    let counts = c.counts;
-    if fault.number == 0 {
-        return lay_counts(out, &counts);
-    }
-    lay_fault(out, fault)
+fn outcome_of(f: Fault) -> Result<(), Fault> {
+    if f.number == 0 { Ok(()) } else { Err(f) }
 }
 
-pub(crate) fn lay_formed(out: &mut [u8; SPACE], file: &[u8]) -> usize {
+fn lay_verdict(out: &mut Text, c: Checked) -> io::Result<()> {
+    match outcome_of(c.fault) {
+        Ok(()) => lay_counts(out, &c.counts),
+        Err(f) => lay_fault(out, f),
+    }
+}
+
+pub(crate) fn lay_formed(out: &mut Text, file: &[u8]) -> io::Result<()> {
     lay_verdict(out, walk::form(file))
 }
 
-pub(crate) fn lay_referred(out: &mut [u8; SPACE], file: &[u8]) -> usize {
+pub(crate) fn lay_referred(out: &mut Text, file: &[u8]) -> io::Result<()> {
     let mut table = [0u32; 12000];
-    let fault = walk::references(file, &mut table);
-    if fault.number == 0 {
-        return lay(out, 0, b"accepted");
+    match outcome_of(walk::references(file, &mut table)) {
+        Ok(()) => out.write_all(b"accepted"),
+        Err(f) => lay_fault(out, f),
     }
-    lay_fault(out, fault)
 }
 
-fn rewrite_file(file: &[u8], space: &mut [u8; SPACE]) -> Fault {
+fn rewrite_file(file: &[u8], space: &mut [u8; SPACE]) -> Result<(), Fault> {
     let mut table = [0u32; 12000];
-    let c = rewriting::rewrite(file, &mut table, space);
-    c.fault
+    outcome_of(rewriting::rewrite(file, &mut table, space).fault)
 }
 
 // The columns of the example as they stand in the rewritten file.
-pub(crate) fn lay_rewritten(out: &mut [u8; SPACE], file: &[u8], spot: Spot) -> usize {
+pub(crate) fn lay_rewritten(out: &mut Text, file: &[u8], spot: Spot) -> io::Result<()> {
     let mut space = [b'.'; SPACE];
-    let fault = rewrite_file(file, &mut space);
-    lay_outcome(out, fault, &space, spot.start, spot.width)
+    let outcome = rewrite_file(file, &mut space);
+    lay_outcome(out, outcome, &space, spot.start, spot.width)
 }
 
 // A tab is shown as the paper shows it, and a line feed in the same way.
-fn lay_visible(out: &mut [u8; SPACE], at: usize, byte: u8) -> usize {
-    if byte == b'\t' {
-        return lay(out, at, b"<tab>");
+fn lay_visible(out: &mut Text, byte: u8) -> io::Result<()> {
+    match byte {
+        b'\t' => out.write_all(b"<tab>"),
+        b'\n' => out.write_all(b"<line feed>"),
+        _ => out.write_all(&[byte]),
     }
-    if byte == b'\n' {
-        return lay(out, at, b"<line feed>");
-    }
-    put(out, at, byte)
 }
 
-fn lay_text(out: &mut [u8; SPACE], part: &[u8]) -> usize {
-    let mut at: usize = 0;
-    for byte in part {
-        at = lay_visible(out, at, *byte);
-    }
-    at
-}
-
-pub(crate) fn lay_listed(out: &mut [u8; SPACE], file: &[u8]) -> usize {
+pub(crate) fn lay_listed(out: &mut Text, file: &[u8]) -> io::Result<()> {
     let mut table = [0u32; 12000];
     let mut sheet = [0u8; SPACE];
     let n = listing::list(file, &mut table, &mut sheet);
-    lay_text(out, within(&sheet, n))
+    for byte in &sheet[..n.min(SPACE)] {
+        lay_visible(out, *byte)?;
+    }
+    Ok(())
 }

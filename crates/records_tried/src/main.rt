@@ -4,58 +4,51 @@
 mod print;
 mod refusals;
 
-ghost use Rattle.std.specs.Prelude.{◌≡◌, length};
-ghost use Rattle.std.specs.Io.{ReadsAtMost};
-
-use kinds::{Reading, Record, Written};
-use print::{number, show_fault, show_record, show_sequence, text};
+use inputs::read_full;
+use kinds::{
+    Antenna, Comment, Continuation, Factor, Heights, Instrument, Job, Local, Network, Point,
+    Project, Record, Title,
+};
+use print::{show_fault, show_record, show_sequence};
 use refusals::write_refused;
 use std::io;
-use std::io::Read;
 
-// Where the texts of more than four columns of a record start; 0 where there is none.
-#[derive(Clone, Copy)]
-struct Texts {
-    first: usize,
-    second: usize,
-    third: usize,
-}
-
-fn starts(first: usize, second: usize, third: usize) -> Texts {
-    Texts {
-        first: first,
-        second: second,
-        third: third,
+// Where the texts of more than four columns of a record start.
+fn texts_of(what: Record) -> [Option<usize>; 3] {
+    match what {
+        Record::Job(_) => [Some(Job::TEXT), None, None],
+        Record::Title(_) => [Some(Title::TITLE), None, None],
+        Record::Continuation(_) => [Some(Continuation::TITLE), None, None],
+        Record::Project(_) => [Some(Project::NAME), Some(Project::SECOND_NAME), None],
+        Record::Occupation(_) => [None, None, None],
+        Record::Comment(_) => [Some(Comment::COMMENT), None, None],
+        Record::Measurement(_) => [None, None, None],
+        Record::Instrument(_) => [
+            Some(Instrument::MANUFACTURER),
+            Some(Instrument::MODEL),
+            Some(Instrument::SERIAL),
+        ],
+        Record::Antenna(_) => [Some(Antenna::CODE), Some(Antenna::SERIAL), None],
+        Record::Point(_) => [Some(Point::NAME), None, None],
+        Record::Heights(_) => [Some(Heights::ORGANIZATION), Some(Heights::COMMENT), None],
+        Record::Network(_) => [Some(Network::COMMENT), None, None],
+        Record::Local(_) => [Some(Local::COMMENT), None, None],
+        Record::Factor(_) => [Some(Factor::COMMENT), None, None],
     }
 }
 
-fn texts_of(what: Record) -> Texts {
-    match what {
-        Record::Job(r) => starts(11, 0, 0),
-        Record::Title(r) => starts(11, 0, 0),
-        Record::Continuation(r) => starts(11, 0, 0),
-        Record::Project(r) => starts(26, 47, 0),
-        Record::Occupation(r) => starts(0, 0, 0),
-        Record::Comment(r) => starts(11, 0, 0),
-        Record::Measurement(r) => starts(0, 0, 0),
-        Record::Instrument(r) => starts(23, 63, 71),
-        Record::Antenna(r) => starts(17, 45, 0),
-        Record::Point(r) => starts(15, 0, 0),
-        Record::Heights(r) => starts(30, 57, 0),
-        Record::Network(r) => starts(66, 0, 0),
-        Record::Local(r) => starts(68, 0, 0),
-        Record::Factor(r) => starts(27, 0, 0),
+fn text_at(file: &[u8], r: usize, start: Option<usize>) -> &[u8] {
+    match start {
+        Some(c) => reading::field(file, r, c),
+        None => b"",
     }
 }
 
 // The first column and the width of a field; nothing where none begins.
 fn show_field(rt: &impl Print, file: &[u8], r: usize, c: usize) -> io::Result<()> {
-    let part = reading::field(file, r, c);
-    let w = part.len();
+    let w = reading::field(file, r, c).len();
     if 0 < w {
-        number(rt, c as u64)?;
-        text(rt, b"+ ")?;
-        number(rt, w as u64)?;
+        print!(rt; "{c} + {w} ")?;
     }
     Ok(())
 }
@@ -64,7 +57,7 @@ fn show_fields(rt: &impl Print, file: &[u8], r: usize) -> io::Result<()> {
     for c in 0..83 {
         show_field(rt, file, r, c)?;
     }
-    text(rt, b"\n")
+    println!(rt)
 }
 
 // Written from the values and texts that were read, the record is in house style.
@@ -75,31 +68,34 @@ fn write_back(
     s: Option<u32>,
     what: Record,
 ) -> io::Result<()> {
-    let t = texts_of(what);
-    let first = reading::field(file, r, t.first);
-    let second = reading::field(file, r, t.second);
-    let third = reading::field(file, r, t.third);
+    let [first, second, third] = texts_of(what);
     let mut out = [b'.'; 82];
-    let w = writing::write(&mut out, s, what, first, second, third);
+    let w = writing::write(
+        &mut out,
+        s,
+        what,
+        text_at(file, r, first),
+        text_at(file, r, second),
+        text_at(file, r, third),
+    );
     match w {
-        Written::Done => text(rt, &out)?,
-        Written::Refused(f) => show_fault(rt, f)?,
+        Ok(()) => rt.write_all(&out)?,
+        Err(f) => show_fault(rt, f)?,
     }
-    text(rt, b"\n")
+    println!(rt)
 }
 
 fn show(rt: &impl Print, file: &[u8], r: usize) -> io::Result<()> {
-    number(rt, r as u64)?;
-    let reading = reading::read(file, r);
-    match reading {
-        Reading::Refused(f) => {
+    print!(rt; "{r} ")?;
+    match reading::read(file, r) {
+        Err(f) => {
             show_fault(rt, f)?;
             show_fields(rt, file, r)
         }
-        Reading::Values(s, what) => {
+        Ok((s, what)) => {
             show_sequence(rt, s)?;
             show_record(rt, what)?;
-            text(rt, b"\n")?;
+            println!(rt)?;
             show_fields(rt, file, r)?;
             write_back(rt, file, r, s, what)
         }
@@ -114,22 +110,6 @@ fn show_all(rt: &impl Print, file: &[u8]) -> io::Result<()> {
         show(rt, file, r)?;
     }
     show(rt, file, 100_000)
-}
-
-// Goes on reading until the input ends or the space is full. The only error is a read's; it leaves the space as long as it was, and in it what was read before.
-fn read_full<R: Read>(reader: &mut R, space: &mut [u8]) -> io::Result<usize>
-    ensures reads { ReadsAtMost result space.new }
-    ensures kept { length space.new ≡ length space.old }
-{
-    let mut done: usize = 0;
-    while done < space.len() {
-        let n = reader.read(&mut space[done..])?;
-        if n == 0 {
-            break;
-        }
-        done += n;
-    }
-    Ok(done)
 }
 
 fn main(rt: HostRuntime) -> io::Result<()> {

@@ -6,183 +6,107 @@ use kinds::{
 };
 use std::io;
 
-pub(crate) fn text(rt: &impl Print, t: &[u8]) -> io::Result<()> {
-    rt.write_all(t)
-}
-
-pub(crate) fn number(rt: &impl Print, n: u64) -> io::Result<()> {
-    print!(rt; "{n} ")
-}
-
-fn count(rt: &impl Print, n: u32) -> io::Result<()> {
-    number(rt, n as u64)
-}
-
-fn byte(rt: &impl Print, b: u8) -> io::Result<()> {
-    number(rt, b as u64)
-}
-
-fn signed(rt: &impl Print, z: i32) -> io::Result<()> {
-    print!(rt; "{z} ")
-}
-
-fn signed_long(rt: &impl Print, z: i64) -> io::Result<()> {
-    print!(rt; "{z} ")
-}
-
 fn height(rt: &impl Print, h: Option<i32>) -> io::Result<()> {
     match h {
-        None => text(rt, b"missing "),
-        Some(z) => signed(rt, z),
+        None => print!(rt; "missing "),
+        Some(z) => print!(rt; "{z} "),
     }
 }
 
 fn two(rt: &impl Print, t: Two) -> io::Result<()> {
-    byte(rt, t.0)?;
-    byte(rt, t.1)
+    print!(rt; "{} {} ", t.0, t.1)
 }
 
 fn three(rt: &impl Print, t: Three) -> io::Result<()> {
-    byte(rt, t.0)?;
-    byte(rt, t.1)?;
-    byte(rt, t.2)
+    print!(rt; "{} {} {} ", t.0, t.1, t.2)
 }
 
 fn four(rt: &impl Print, t: Four) -> io::Result<()> {
-    byte(rt, t.0)?;
-    byte(rt, t.1)?;
-    byte(rt, t.2)?;
-    byte(rt, t.3)
+    print!(rt; "{} {} {} {} ", t.0, t.1, t.2, t.3)
 }
 
 fn media(rt: &impl Print, m: Media) -> io::Result<()> {
-    byte(rt, m.maker)?;
-    count(rt, m.day)?;
-    byte(rt, m.year)?;
-    byte(rt, m.session)?;
-    let mark = m.mark;
-    four(rt, mark)
+    print!(rt; "{} {} {} {} ", m.maker, m.day, m.year, m.session)?;
+    four(rt, m.mark)
 }
 
 pub(crate) fn show_fault(rt: &impl Print, f: Fault) -> io::Result<()> {
-    text(rt, b"refused ")?;
-    count(rt, f.number)?;
-    number(rt, f.record as u64)?;
-    number(rt, f.column as u64)?;
-    text(rt, b"\n")
+    println!(rt; "refused {} {} {} ", f.number, f.record, f.column)
 }
 
 pub(crate) fn show_sequence(rt: &impl Print, s: Option<u32>) -> io::Result<()> {
     match s {
-        None => text(rt, b"missing "),
-        Some(n) => count(rt, n),
+        None => print!(rt; "missing "),
+        Some(n) => print!(rt; "{n} "),
     }
 }
 
 fn show_project(rt: &impl Print, r: Project) -> io::Result<()> {
-    let initials = r.initials;
-    let second = r.second;
-    let state = r.state;
-    count(rt, r.began)?;
-    count(rt, r.ended)?;
-    three(rt, initials)?;
-    three(rt, second)?;
-    two(rt, state)
+    print!(rt; "{} {} ", r.began, r.ended)?;
+    three(rt, r.initials)?;
+    three(rt, r.second)?;
+    two(rt, r.state)
 }
 
 fn show_occupation(rt: &impl Print, r: Occupation) -> io::Result<()> {
-    let label = r.media;
-    let initials = r.initials;
-    count(rt, r.station)?;
-    media(rt, label)?;
-    three(rt, initials)?;
-    count(rt, r.instrument)?;
-    count(rt, r.antenna)
+    print!(rt; "{} ", r.station)?;
+    media(rt, r.media)?;
+    three(rt, r.initials)?;
+    print!(rt; "{} {} ", r.instrument, r.antenna)
 }
 
 fn show_measurement(rt: &impl Print, r: Measurement) -> io::Result<()> {
-    count(rt, r.station)?;
-    count(rt, r.date)?;
-    count(rt, r.time)?;
-    signed(rt, r.height)
+    print!(rt; "{} {} {} {} ", r.station, r.date, r.time, r.height)
 }
 
 fn show_antenna(rt: &impl Print, r: Antenna) -> io::Result<()> {
-    let radome = r.radome;
-    count(rt, r.antenna)?;
-    four(rt, radome)
+    print!(rt; "{} ", r.antenna)?;
+    four(rt, r.radome)
 }
 
 fn show_point(rt: &impl Print, r: Point) -> io::Result<()> {
-    let state = r.state;
-    count(rt, r.station)?;
-    signed_long(rt, r.latitude)?;
-    signed_long(rt, r.longitude)?;
-    two(rt, state)
+    print!(rt; "{} {} {} ", r.station, r.latitude, r.longitude)?;
+    two(rt, r.state)
 }
 
 fn show_heights(rt: &impl Print, r: Heights) -> io::Result<()> {
-    let class = r.class;
-    let datum = r.datum;
-    let orthometric = r.orthometric;
-    let geoid = r.geoid;
-    let ellipsoid = r.ellipsoid;
-    count(rt, r.station)?;
-    height(rt, orthometric)?;
-    byte(rt, r.code)?;
-    two(rt, class)?;
-    byte(rt, r.indicator)?;
-    two(rt, datum)?;
-    height(rt, geoid)?;
-    byte(rt, r.geoidcode)?;
-    height(rt, ellipsoid)?;
-    byte(rt, r.ellipsoidcode)?;
-    byte(rt, r.ellipsoiddatum)
+    print!(rt; "{} ", r.station)?;
+    height(rt, r.orthometric)?;
+    print!(rt; "{} ", r.code)?;
+    two(rt, r.class)?;
+    print!(rt; "{} ", r.indicator)?;
+    two(rt, r.datum)?;
+    height(rt, r.geoid)?;
+    print!(rt; "{} ", r.geoidcode)?;
+    height(rt, r.ellipsoid)?;
+    print!(rt; "{} {} ", r.ellipsoidcode, r.ellipsoiddatum)
 }
 
 fn show_network(rt: &impl Print, r: Network) -> io::Result<()> {
-    count(rt, r.station)?;
-    number(rt, r.north)?;
-    number(rt, r.east)?;
-    signed_long(rt, r.correlation)?;
-    number(rt, r.ellipsoid)?;
-    byte(rt, r.scaled)
+    print!(rt; "{} {} {} ", r.station, r.north, r.east)?;
+    print!(rt; "{} {} {} ", r.correlation, r.ellipsoid, r.scaled)
 }
 
 fn show_local(rt: &impl Print, r: Local) -> io::Result<()> {
-    count(rt, r.standpoint)?;
-    count(rt, r.forepoint)?;
-    number(rt, r.north)?;
-    number(rt, r.east)?;
-    signed_long(rt, r.correlation)?;
-    number(rt, r.ellipsoid)?;
-    byte(rt, r.scaled)
+    print!(rt; "{} {} {} {} ", r.standpoint, r.forepoint, r.north, r.east)?;
+    print!(rt; "{} {} {} ", r.correlation, r.ellipsoid, r.scaled)
 }
 
 pub(crate) fn show_record(rt: &impl Print, what: Record) -> io::Result<()> {
     match what {
-        Record::Job(r) => {
-            byte(rt, r.first)?;
-            byte(rt, r.second)
-        }
-        Record::Title(r) => text(rt, b"title "),
-        Record::Continuation(r) => text(rt, b"continuation "),
+        Record::Job(r) => print!(rt; "{} {} ", r.first, r.second),
+        Record::Title(_) => print!(rt; "title "),
+        Record::Continuation(_) => print!(rt; "continuation "),
         Record::Project(r) => show_project(rt, r),
         Record::Occupation(r) => show_occupation(rt, r),
-        Record::Comment(r) => text(rt, b"comment "),
+        Record::Comment(_) => print!(rt; "comment "),
         Record::Measurement(r) => show_measurement(rt, r),
-        Record::Instrument(r) => {
-            count(rt, r.instrument)?;
-            count(rt, r.equipment)
-        }
+        Record::Instrument(r) => print!(rt; "{} {} ", r.instrument, r.equipment),
         Record::Antenna(r) => show_antenna(rt, r),
         Record::Point(r) => show_point(rt, r),
         Record::Heights(r) => show_heights(rt, r),
         Record::Network(r) => show_network(rt, r),
         Record::Local(r) => show_local(rt, r),
-        Record::Factor(r) => {
-            count(rt, r.horizontal)?;
-            count(rt, r.vertical)
-        }
+        Record::Factor(r) => print!(rt; "{} {} ", r.horizontal, r.vertical),
     }
 }

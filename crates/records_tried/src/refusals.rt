@@ -1,9 +1,16 @@
 // Values that write must refuse, each with the number and column that it answers, after two bytes of the output, which is left as it was.
-use crate::print::{show_fault, text};
+use crate::print::show_fault;
 use kinds::{
-    Factor, Heights, Job, Local, Measurement, Network, Point, Project, Record, Three, Two, Written,
+    Factor, Fault, Heights, Job, Local, Measurement, Network, Point, Project, Record, Three, Two,
 };
 use std::io;
+
+fn show_written(rt: &impl Print, w: Result<(), Fault>) -> io::Result<()> {
+    match w {
+        Ok(()) => println!(rt; "written"),
+        Err(f) => show_fault(rt, f),
+    }
+}
 
 // Writes into an output of dots.
 fn refused(
@@ -15,12 +22,8 @@ fn refused(
 ) -> io::Result<()> {
     let mut out = [b'.'; 82];
     let w = writing::write(&mut out, sequence, what, first, second, b"");
-    text(rt, &out[0..1])?;
-    text(rt, &out[80..81])?;
-    match w {
-        Written::Done => text(rt, b"written\n"),
-        Written::Refused(f) => show_fault(rt, f),
-    }
+    rt.write_all(&[out[0], out[80]])?;
+    show_written(rt, w)
 }
 
 fn point(station: u32, latitude: i64, longitude: i64) -> Record {
@@ -200,12 +203,8 @@ fn too_short(rt: &impl Print) -> io::Result<()> {
     let mut out = [b'.'; 80];
     let job = Record::Job(Job::new(b'a', b'a'));
     let w = writing::write(&mut out, Some(0), job, b"", b"", b"");
-    text(rt, &out[0..1])?;
-    text(rt, &out[79..80])?;
-    match w {
-        Written::Done => text(rt, b"written\n"),
-        Written::Refused(f) => show_fault(rt, f),
-    }
+    rt.write_all(&[out[0], out[79]])?;
+    show_written(rt, w)
 }
 
 pub(crate) fn write_refused(rt: &impl Print) -> io::Result<()> {

@@ -1,12 +1,10 @@
-use borrow.Author.Rules.{rules}
-use Rattle.listing.proofs.LayLaws.{zeros_on_lem, zeros_found, zeros_end}
+use Rattle.std.proofs.Common.{rules, tests}
+use Rattle.std.proofs.lemmas.Iterator.{YieldsList-from_slice}
+use Rattle.std.proofs.lemmas.Iterator.Search.{position_from_yields_List}
+use Rattle.listing.proofs.LayLaws.{is_other, zeros_first}
 use Rattle.listing.proofs.words.count_zeros.Goals as goal
 
-pub returns-then-digits-i-ne48 : goal.returns-then-digits-i-ne48
-returns-then-digits-i-ne48 c = search (zeros_found, rules)
-
-pub loop-i-preserved : goal.loop-i-preserved
-loop-i-preserved c = search (zeros_on_lem, rules)
-
 pub returns : goal.returns
-returns c = search (zeros_end, rules)
+returns c =
+    let found = position_from_yields_List is_other _ _ c.position.result c.position.ensures.ran (YieldsList-from_slice _ c.iter.ensures.rest) (λ x b q k. search (rules, tests)) in
+    search (zeros_first, found, rules)

@@ -1,15 +1,20 @@
-// A file of the data, read whole.
-ghost use Rattle.std.specs.Prelude.{◌≡◌, length};
+// What the programs read, laid at the start of a lent space.
+#![tactic(auto)]
+
+ghost use Rattle.std.specs.Prelude.{◌≡◌, ◌<◌, length, take, IfOk};
 ghost use Rattle.std.specs.Io.{ReadsAtMost};
+ghost use Rattle.std.specs.Io.KnownBytes.{Consumes, IsAtEnd};
 
 use std::io::Read;
 use std::rt::Files;
 use std::{fs, io};
 
-// Goes on reading until the input ends or the space is full. The only error is a read's; it leaves the space as long as it was, and in it what was read before.
-fn read_full<R: Read>(reader: &mut R, space: &mut [u8]) -> io::Result<usize>
+// Goes on reading until the input ends or the space is full, so that it does not matter in what pieces a pipe delivers. The only error is a read's; it leaves the space as long as it was, and in it what was read before.
+pub fn read_full<R: Read>(reader: &mut R, space: &mut [u8]) -> io::Result<usize>
     ensures reads { ReadsAtMost result space.new }
     ensures kept { length space.new ≡ length space.old }
+    ensures bytes { IfOk result (λ n. Consumes (R.remaining reader.old) (R.remaining reader.new) (take n space.new)) }
+    ensures whole { IfOk result (λ n. n < length space.new → IsAtEnd (R.remaining reader.new)) }
 {
     let mut done: usize = 0;
     while done < space.len() {
@@ -23,11 +28,7 @@ fn read_full<R: Read>(reader: &mut R, space: &mut [u8]) -> io::Result<usize>
 }
 
 // Puts the bytes of the file at the start of the space and answers how many: none where it cannot be opened. The only errors are a read's and that of a line to standard error; they leave the space as long as it was.
-pub(crate) fn read_file(
-    rt: &(impl Files + Eprint),
-    path: &[u8],
-    space: &mut [u8],
-) -> io::Result<usize>
+pub fn read_file(rt: &(impl Files + Eprint), path: &[u8], space: &mut [u8]) -> io::Result<usize>
     ensures reads { ReadsAtMost result space.new }
     ensures kept { length space.new ≡ length space.old }
 {
