@@ -62,14 +62,6 @@ truth_is true false = refl
 truth_is false true = refl
 truth_is false false = refl
 
--- ---- an earlier field's columns
-module _ (l p : List ℕ) (c w v : ℕ) (e : v ≡ w) where
-  pub earlier_none : c ≡ 0 → p ≡ take v (drop 0 l) → p ≡ part c w l
-  earlier_none z q = q ∙ rw (e, z)
-
-  pub earlier_there : (u : ℕ) → u ≡ c → p ≡ take v (drop (u - 1) l) → p ≡ part c w l
-  earlier_there u z q = q ∙ rw (e, z)
-
 -- ---- agreement, by the bond
 module _ (e : Expect) (l bs : List ℕ) {b : Bond} where
   pub agrees-free : b ≡ B.Free → true ≡ agrees_in e l b bs

@@ -17,11 +17,9 @@ use Rattle.columns.specs.declared.Set.{Set}
 use Rattle.columns.specs.declared.Way.{Way}
 use Rattle.columns.specs.Types.{set_of, way_of, media_value, four_of}
 use Rattle.columns.specs.Leaves.{written}
-use Rattle.kinds.specs.declared.tables.Item as code
-use Rattle.kinds.specs.Tables.{item_of}
 use Rattle.judging.specs.declared.spots.FieldKind.{FieldKind}
 use Rattle.judging.specs.declared.spots.FieldKind.TheVariants as K
-use Rattle.judging.specs.Judging.{item_as, KindOf, spans, sized}
+use Rattle.judging.specs.Judging.{item_as, spans, sized}
 
 -- ---- so many columns hold a field
 module _ (i : Item) (w : ℕ) (h : spans i w ≡ true) where
@@ -253,11 +251,3 @@ module _ (i : Item) (bs : List ℕ) (h : spans i (length bs) ≡ true) where
   pub bad_last : (k : ℕ) → length bs ≤ k + 1 → left i bs k ≡ spot i bs → k ≡ spot i bs
   unfolding first_bad
   bad_last k l e = let z : length bs - 1 - k ≡ 0 = omega arith in sym (ap (λ n. first_bad i bs n k) z) ∙ e
-
--- ---- the kind that stands there
-module _ (i : code.Item) (bs : List ℕ) (kind : FieldKind) (e : KindOf i kind) where
-  pub item_spans : spans (item_of i (length bs)) (length bs) ≡ true → spans (item_as kind (length bs)) (length bs) ≡ true
-  item_spans h = rw (e (length bs)) h
-
-  pub item_spot : {r : ℕ} → r ≡ spot (item_as kind (length bs)) bs → r ≡ spot (item_of i (length bs)) bs
-  item_spot z = z ∙ ap (λ k. spot k bs) (e (length bs))

@@ -11,17 +11,15 @@ use lib.ListN.{length, length-append, length-take, get_or, set, take, drop, drop
 use lib.Seq.{take-suc, take_all, drop-cons, drop_at}
 use Rattle.rules.specs.Tests.{all, ◌≤?◌}
 use Rattle.rules.specs.Files.{accept}
-use Rattle.rules.specs.Padding.{texts, judge_texts, pad_answer_by}
+use Rattle.rules.specs.Padding.{texts, judge_texts}
 use Rattle.rules.proofs.Truth.{and, of≤, cases, all_append}
 use Rattle.rules.proofs.FileLaws.{is_accept_lem}
 use Rattle.rules.proofs.PaddingLaws.{short_passed, short_texts}
-use Rattle.padding.specs.declared.Padded.{Padded}
 use Rattle.padding.specs.Lines.{feed_at, text_length}
 use Rattle.padding.specs.Walks.{lines_ahead, too_long, long_ahead, sum, Passed, Told, Halved}
-use Rattle.padding.specs.Promise.{padded_of}
 use Rattle.padding.proofs.FeedLaws.{feed_most, lent_rest}
 use Rattle.padding.proofs.TextLaws.{texts_split}
-use Rattle.padding.proofs.PassLaws.{no_texts, window, next_text, text_size, answer_is}
+use Rattle.padding.proofs.PassLaws.{no_texts, window, next_text, text_size}
 
 -- ---- numbers added up
 module _ (g : ℕ → ℕ) where
@@ -197,8 +195,3 @@ module _ (f : List ℕ) (start : ℕ) (some : 1 ≤ start) (h : start ≤ length
       within = omega (arith, number);
       behind = sym (ap (drop near) split ∙ drop_at (texts (take start f)) (texts (drop start f)) near (sym (tn.counted zn)));
     }
-
--- the answer
-pub told-good : (f : List ℕ) (n : ℕ) → Told f n → (n ≡ 0 → ⊥) → (v : Padded) → v ≡ padded_of (pad_answer_by accept n)
-    → v ≡ padded_of (pad_answer_by (judge_texts 1 (texts f)) (length (texts f)))
-told-good f n t z v e = answer_is f v accept n e (sym (t.passes z)) (t.counted z)

@@ -183,9 +183,6 @@ module _ (l p : List ℕ) (c : ℕ) (e : p ≡ take 10 (drop (c - 1) l)) where
 
 -- ---- short codes
 module _ (p q : List ℕ) (e : p ≡ q) (a : ℕ) (x : a ≡ get_or p 0 0) where
-  pub char_given : a ≡ get_or q 0 0
-  char_given = x ∙ rw e
-
   module _ (b : ℕ) (y : b ≡ get_or p 1 0) where
     pub two-given : ◌≡◌ {A = Two} record { 0 = a; 1 = b } (two q)
     unfolding two

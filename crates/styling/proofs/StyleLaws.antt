@@ -1,15 +1,14 @@
 -- A copy of a good line, changed in place row by row, is the line in house style. What a row leaves is what the rules lay, and the columns behind it still are the line's. Assumes nothing.
 use mathlib.Core.Path.{◌≡◌, refl, sym, ap, ◌∙◌}
 use mathlib.Core.Bool.{Bool, true, false, not, false≢true}
-use mathlib.Core.List.{List, [], ◌∷◌, ◌++◌, map, append-nil, append_assoc}
+use mathlib.Core.List.{List, [], ◌∷◌, ◌++◌, map, append_assoc}
 use Prim.Native.Nat.{ℕ, suc, ◌+◌, ◌-◌, ◌≤◌, ◌<◌}
-use native.Mathlib.Nat.{add-sub_cancel_left, le_refl}
-use native.Mathlib.Numerals.{add-one}
+use native.Mathlib.Nat.{add-sub_cancel_left}
 use native.Mathlib.Omega.{arith}
 use lib.Dec.{lit≤}
 use lib.IntN.{pos}
-use lib.ListN.{length, get_or, set, take, drop, take-append-drop, length-drop, length-append, drop_of_length-le}
-use lib.Seq.{length-take-le, drop-cons, drop-drop, drop_at, take_all, drop-set-lt, take-suc-set}
+use lib.ListN.{length, get_or, take, drop, take-append-drop, length-drop, length-append}
+use lib.Seq.{length-take-le, drop-drop, drop_at}
 use borrow.Rule.Slice.PartMut.{put_mid}
 use Rattle.rules.specs.Tests.{◌&◌, ◌≤?◌, all}
 use Rattle.rules.specs.Digits.{put}
@@ -31,14 +30,6 @@ use Rattle.styling.specs.Laying.{roomy, lay, lay_fields}
 use Rattle.styling.specs.Styling.{style_of, good_row, style_row, good_rows, style_rows, filled, settled, height_style, angle_style, changed, change_field, change_rows}
 use Rattle.styling.proofs.LayLaws.{line_laid, lay-length, lay-put, fits_room}
 use Rattle.styling.proofs.StandLaws.{kept_as_is, style_same, number_done, rise_done, metres_done, angle_done}
-
--- ---- a loop that changes a list in place, column by column
-module _ (f : ℕ → ℕ) (l : List ℕ) (i : ℕ) where
-  pub map_turn : (b : ℕ) → b ≡ f (get_or l i 0) → i < length l → take (i + 1) (set l i b) ++ map f (drop (i + 1) (set l i b)) ≡ take i l ++ map f (drop i l)
-  map_turn b e h = rw (e, add-one, take-suc-set l i (f (get_or l i 0)) h, drop-set-lt (suc i) l i (f (get_or l i 0)) (le_refl (suc i)), drop-cons l i 0 h, append_assoc)
-
-  pub map_end : length l ≤ i → take i l ++ map f (drop i l) ≡ l
-  map_end h = rw (take_all i l h, drop_of_length-le l h, append-nil)
 
 -- ---- bytes laid into a line
 lay-after : (c n w : ℕ) (ys l : List ℕ) → c ≡ n + 1 → length ys ≡ w → n < length l → n + w ≤ length l → drop (n + w) (lay c ys l) ≡ drop (n + w) l

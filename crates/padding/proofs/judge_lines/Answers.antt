@@ -2,7 +2,7 @@ use Prim.Native.Nat.{◌+◌, ◌≤◌}
 use native.Mathlib.Omega.{arith}
 use lib.ListN.{length}
 use borrow.Author.Rules.{rules}
-use Rattle.padding.proofs.PassLaws.{judge_from, judge_2, judge_5, judge_next, judge_end, next_within}
+use Rattle.padding.proofs.PassLaws.{judge_2, judge_5, judge_next, judge_end, next_within}
 use Rattle.padding.proofs.judge_lines.Goals as goal
 
 -- the next line starts at most one byte behind the end
@@ -10,14 +10,8 @@ next : (c : goal.Else-text_length-gt80)
     → c.loop-at.at + (c.feed_at-n.result + 1) ≤ length c.args.input.now + 1
 next c = search (next_within, rules)
 
-pub loop-at-init : goal.loop-at-init
-loop-at-init c = search (judge_from, rules)
-
 pub returns-then-lines-eq99999 : goal.returns-then-lines-eq99999
 returns-then-lines-eq99999 c = search (judge_2, rules)
-
-pub overflow_add-lines : goal.overflow_add-lines
-overflow_add-lines c = omega (arith, c.loop-at.invariant.few)
 
 pub returns-then-text_length-gt80 : goal.returns-then-text_length-gt80
 returns-then-text_length-gt80 c = search (judge_5, rules)
@@ -27,9 +21,6 @@ overflow_add-at c = let h = next c in omega arith
 
 pub overflow_add-at-in-loop-at : goal.overflow_add-at-in-loop-at
 overflow_add-at-in-loop-at c = let h = next c in omega arith
-
-pub loop-at-smaller : goal.loop-at-smaller
-loop-at-smaller c = let h = next c in omega arith
 
 pub loop-at-preserved : goal.loop-at-preserved
 loop-at-preserved c = search (judge_next, rules)

@@ -5,9 +5,6 @@ use Rattle.padding.specs.Lines.{mask_bytes}
 use Rattle.padding.proofs.PadLaws.{faulty, good-lines, count, narrow, before, laid}
 use Rattle.padding.proofs.pad.Goals as goal
 
-pub judge-v-requires : goal.judge-v-requires
-judge-v-requires c = c.count_halves-halves.ensures.told
-
 pub returns-then-v-ne0 : goal.returns-then-v-ne0
 returns-then-v-ne0 c = search (faulty, rules)
 

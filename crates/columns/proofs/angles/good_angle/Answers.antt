@@ -5,11 +5,8 @@ use Prim.Native.Nat.{◌-◌}
 use lib.ListN.{length, take}
 use Rattle.rules.specs.Tests.{◌&◌, ◌≤?◌}
 use Rattle.columns.specs.Leaves.{digits_up_to}
-use Rattle.columns.proofs.AngleLaws.{agrees, few, angle-wide, angle-good}
+use Rattle.columns.proofs.AngleLaws.{agrees, angle-wide, angle-good}
 use Rattle.columns.proofs.angles.good_angle.Goals as goal
-
-pub overflow_add-n : goal.overflow_add-n
-overflow_add-n c = omega (arith, few (agrees c.args.way c.limits_of-l.ensures))
 
 pub returns-then-part-n : goal.returns-then-part-n
 returns-then-part-n c = angle-wide (agrees c.args.way c.limits_of-l.ensures) c.args.part.now c.if-part-n.true

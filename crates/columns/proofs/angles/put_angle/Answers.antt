@@ -15,16 +15,13 @@ use Rattle.rules.specs.Items.{angle, num, fits, dms, columns}
 use Rattle.columns.specs.Types.{way_of}
 use Rattle.columns.specs.declared.Way.{Way}
 use Rattle.columns.proofs.WriteLaws.{kept-wide, kept_unfit, now_written}
-use Rattle.columns.proofs.AngleLaws.{agrees, few, angle-wide_is, angle_size, angle-render}
+use Rattle.columns.proofs.AngleLaws.{agrees, angle-wide_is, angle_size, angle-render}
 use Rattle.columns.proofs.angles.put_angle.Goals as goal
 use Rattle.columns.proofs.angles.put_angle.Goals.{then-z-lt0, else-z-lt0}
 
 -- z comes to a call and back as it is
 fitting : (way : Way) {z : ℤ} {b : Bool} → SFits w64 z → b ≡ fits (angle (way_of way)) (num (to_z w64 (of_z w64 z))) → b ≡ fits (angle (way_of way)) (num z)
 fitting way k e = e ∙ ap (λ z. fits (angle (way_of way)) (num z)) (to_z-of_z w64 _ k)
-
-pub overflow_add-l : goal.overflow_add-l
-overflow_add-l c = omega (arith, few (agrees c.args.way c.limits_of-l.ensures))
 
 pub returns-then-out-l : goal.returns-then-out-l
 returns-then-out-l c = let a = c.args in kept-wide (angle (way_of a.way)) (num a.z) a.out.now (λ e. c.if-out-l.true (e ∙ angle-wide_is (agrees c.args.way c.limits_of-l.ensures)))

@@ -1,10 +1,7 @@
 use mathlib.Core.Path.{sym, ◌∙◌}
 use native.Mathlib.Omega.{arith}
-use Rattle.columns.proofs.Loops.{put_start, put_turn, put_end}
+use Rattle.columns.proofs.Loops.{put_turn, put_end}
 use Rattle.columns.proofs.writers.put_digits.Goals as goal
-
-pub loop-i-init : goal.loop-i-init
-loop-i-init c = put_start c.args.out.now c.args.v
 
 pub loop-i-preserved : goal.loop-i-preserved
 loop-i-preserved c = c.loop-i.invariant ∙ put_turn _ _ _ c.loop-i-test.true (omega arith)

@@ -1,10 +1,6 @@
 use borrow.Author.Rules.{rules}
-use mathlib.Core.Path.{sym, ◌∙◌}
 use Rattle.judging.proofs.CodeLaws.{is_data, is_job, is_none}
 use Rattle.judging.proofs.codes.kind_between.Goals as goal
-
-pub data_kind-requires : goal.data_kind-requires
-data_kind-requires c = sym c.is_data.ensures ∙ c.if-is_data.true
 
 pub returns-then-is_data : goal.returns-then-is_data
 returns-then-is_data c = search (is_data, rules)

@@ -1,12 +1,7 @@
 -- The part as the code cuts it is the field's columns.
 use native.Mathlib.Omega.{arith}
-use Rattle.judging.proofs.FieldLaws.{cut_spans, spot_small, refused_is}
+use Rattle.judging.proofs.FieldLaws.{spot_small, refused_is}
 use Rattle.judging.proofs.fields.refused_in.Goals as goal
-
-pub spot_item-requires : goal.spot_item-requires
-spot_item-requires c =
-    let p = c.requires in
-    cut_spans c.args.line.now c.args.first c.args.width p.0 p.1 p.2 c.args.item p.3
 
 pub overflow_add-result : goal.overflow_add-result
 overflow_add-result c =

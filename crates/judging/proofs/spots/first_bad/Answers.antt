@@ -3,24 +3,15 @@ use borrow.Author.Rules.{rules}
 use native.Mathlib.Omega.{arith}
 use lib.ListN.{length, replicate}
 use Rattle.judging.specs.Judging.{item_as}
-use Rattle.judging.proofs.SpotLaws.{spans_80, least-spans, least-laid, bad_from, bad_here, bad_later, bad_last}
+use Rattle.judging.proofs.SpotLaws.{spans_80, least-laid, bad_from, bad_here, bad_later, bad_last}
 use Rattle.judging.proofs.spots.first_bad.Goals as goal
 
 pub slice_bounds-least-end : goal.slice_bounds-least-end
 slice_bounds-least-end c = omega (arith, spans_80 _ _ c.requires)
 
-pub put_least-requires : goal.put_least-requires
-put_least-requires c =
-    least-spans c.args.kind c.args.part.now (replicate 80 32) c.requires (spans_80 _ _ c.requires)
-
 pub loop-k-init : goal.loop-k-init
 loop-k-init c =
     (search rules, least-laid c.args.kind c.args.part.now (replicate 80 32) c.requires (spans_80 _ _ c.requires) _ c.put_least.ensures, bad_from (item_as c.args.kind (length c.args.part.now)) c.args.part.now c.requires)
-
-pub can_begin-requires : goal.can_begin-requires
-can_begin-requires c =
-    let v = c.loop-k.invariant in
-    (omega arith, c.requires, v.1)
 
 pub returns-then-not-can_begin : goal.returns-then-not-can_begin
 returns-then-not-can_begin c =

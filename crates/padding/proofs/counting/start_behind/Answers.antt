@@ -3,7 +3,6 @@ use native.Mathlib.Omega.{arith}
 use lib.ListN.{length}
 use borrow.Author.Rules.{rules}
 use Rattle.padding.proofs.PassLaws.{start_within}
-use Rattle.padding.proofs.WalkLaws.{start_is}
 use Rattle.padding.proofs.counting.start_behind.Goals as goal
 
 within : (c : goal.After-feed_at) → c.args.at + c.feed_at.result ≤ length c.args.input.now
@@ -14,6 +13,3 @@ overflow_add-result c = let h = within c in omega arith
 
 pub overflow_add-result-2 : goal.overflow_add-result-2
 overflow_add-result-2 c = let h = within c in omega arith
-
-pub returns : goal.returns
-returns c = search (start_is, rules)

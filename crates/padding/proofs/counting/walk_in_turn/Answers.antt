@@ -5,18 +5,12 @@ use native.Mathlib.Omega.{arith}
 use lib.ListN.{take, drop}
 use borrow.Author.Rules.{rules}
 use Rattle.padding.specs.Lines.{feed_at}
-use Rattle.padding.proofs.WalkLaws.{within_82, passed_none, turn_next}
+use Rattle.padding.proofs.WalkLaws.{within_82, turn_next}
 use Rattle.padding.proofs.counting.walk_in_turn.Goals as goal
 
 -- the LF stands among the 82 bytes
 found : (input : List ℕ) (place : ℕ) {n : ℕ} → n ≡ feed_at (take (place + 82 - place) (drop place input)) → n ≤ 82
 found input place e = within_82 (drop place input) (place + 82 - place) (omega arith) _ e
-
-pub returns-then-size-lt82 : goal.returns-then-size-lt82
-returns-then-size-lt82 c = (search rules, passed_none _ _ 0 (omega arith))
-
-pub loop-lines-init : goal.loop-lines-init
-loop-lines-init c = (search rules, passed_none _ _ 0 (omega arith))
 
 pub overflow_add-places : goal.overflow_add-places
 overflow_add-places c = let most = found c.args.input.now _ c.feed_at-n.ensures in omega arith

@@ -1,16 +1,9 @@
 use mathlib.Core.Path.{sym, ◌∙◌, ap, subst}
 use Prim.Native.Nat.{◌+◌, min}
 use native.Mathlib.Omega.{arith}
-use borrow.Author.Rules.{rules}
 use Rattle.padding.specs.Lines.{nearest}
-use Rattle.padding.proofs.FeedLaws.{Found, Seen, seen_none, found_turn, found_all}
+use Rattle.padding.proofs.FeedLaws.{Found, Seen, found_turn, found_all}
 use Rattle.padding.proofs.lines.first_feed.Goals as goal
-
-pub loop-place-init : goal.loop-place-init
-loop-place-init c = (c.requires, seen_none _)
-
-pub nearest_feed-requires : goal.nearest_feed-requires
-nearest_feed-requires c = (search rules, omega arith, sym c.from.ensures)
 
 pub loop-place-preserved : goal.loop-place-preserved
 loop-place-preserved c =

@@ -3,12 +3,8 @@ use native.Mathlib.Omega.{arith}
 use lib.ListN.{length}
 use borrow.Author.Rules.{rules}
 use Rattle.padding.proofs.PassLaws.{window, next_within, text_there}
-use Rattle.padding.proofs.StretchLaws.{inside, line_room, line_wide, line_fits, turned_from, turned_next}
+use Rattle.padding.proofs.StretchLaws.{inside, line_wide, line_fits, turned_next}
 use Rattle.padding.proofs.stretches.lay_in_turn.Goals as goal
-
--- there is room for the line, and it is one that fits
-room : (c : goal.After-text_length-k) → c.loop-here.here.to + 81 ≤ length c.loop-here.out
-room c = line_room _ _ c.loop-here.here c.loop-here.invariant.1.ready_here c.loop-here-test.true
 
 -- the next line starts at most one byte behind the end
 next : (c : goal.After-slice_known-in-loop-here-1)
@@ -17,18 +13,6 @@ next : (c : goal.After-slice_known-in-loop-here-1)
 next c =
     let f = c.args.input.now in
     next_within f c.loop-here.here.from (inside f _ c.loop-here.here c.loop-here.invariant.1.ready_here c.loop-here-test.true) _ (window f c.loop-here.here.from) _ c.feed_at-n.ensures
-
-pub returns-then-size-lt82 : goal.returns-then-size-lt82
-returns-then-size-lt82 c = search (turned_from, rules)
-
-pub loop-here-init : goal.loop-here-init
-loop-here-init c = (search rules, search (turned_from, rules))
-
-pub overflow_add-e : goal.overflow_add-e
-overflow_add-e c = let h = room c in omega arith
-
-pub slice_bounds-lay_line-end : goal.slice_bounds-lay_line-end
-slice_bounds-lay_line-end c = let h = room c in search rules
 
 pub lay_line-requires : goal.lay_line-requires
 lay_line-requires c =

@@ -1,13 +1,10 @@
 use mathlib.Core.Path.{◌∙◌}
 use borrow.Author.Rules.{rules}
-use Rattle.padding.proofs.StretchLaws.{turned_ready, turned_done, ready_near, ready_far, apart_halves, halves_laid}
+use Rattle.padding.proofs.StretchLaws.{turned_done, ready_near, ready_far, apart_halves, halves_laid}
 use Rattle.padding.proofs.stretches.lay_lines.Goals as goal
 
 pub lay_in_turn-left-requires : goal.lay_in_turn-left-requires
 lay_in_turn-left-requires c = (search rules, search (ready_near, rules), search (ready_far, rules), search (apart_halves, rules))
-
-pub lay_stretch-requires-2 : goal.lay_stretch-requires-2
-lay_stretch-requires-2 c = (search rules, search (turned_ready, rules))
 
 pub returns : goal.returns
 returns c =

@@ -4,14 +4,8 @@ use native.Mathlib.Omega.{arith}
 use lib.ListN.{length}
 use borrow.Author.Rules.{rules}
 use Rattle.padding.proofs.PassLaws.{next_within, text_there}
-use Rattle.padding.proofs.StretchLaws.{inside, line_room, line_wide, line_fits, lay_from, lay_next, lay_done}
+use Rattle.padding.proofs.StretchLaws.{inside, line_wide, line_fits, lay_next, lay_done}
 use Rattle.padding.proofs.stretches.lay_stretch.Goals as goal
-
-some : (c : goal.After-text_length-k) → 0 < c.args.stretch.lines - c.loop.counter
-some c = omega arith
-
-room : (c : goal.After-text_length-k) → c.loop.a + 81 ≤ length c.loop.out
-room c = line_room _ _ _ c.loop.invariant.1.ready (some c)
 
 -- the next line starts at most one byte behind the end
 next : (c : goal.After-slice_known-in-loop-1)
@@ -20,15 +14,6 @@ next : (c : goal.After-slice_known-in-loop-1)
 next c =
     let some : 0 < c.args.stretch.lines - c.loop.counter = omega arith in
     next_within _ _ (inside _ _ _ c.loop.invariant.1.ready some) _ c.middle-part.ensures _ c.feed_at-n.ensures
-
-pub loop-init : goal.loop-init
-loop-init c = (search rules, search (lay_from, rules))
-
-pub overflow_add-e : goal.overflow_add-e
-overflow_add-e c = let h = room c in omega arith
-
-pub slice_bounds-lay_line-end : goal.slice_bounds-lay_line-end
-slice_bounds-lay_line-end c = let h = room c in search rules
 
 pub lay_line-requires : goal.lay_line-requires
 lay_line-requires c =

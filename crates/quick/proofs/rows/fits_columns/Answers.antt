@@ -1,9 +1,6 @@
 use borrow.Author.Rules.{rules}
-use Rattle.quick.proofs.CodeLaws.{columns_fit, texts_fit}
+use Rattle.quick.proofs.CodeLaws.{texts_fit}
 use Rattle.quick.proofs.rows.fits_columns.Goals as goal
 
 pub returns-then-is_text_kind : goal.returns-then-is_text_kind
 returns-then-is_text_kind c = search (texts_fit, rules)
-
-pub returns : goal.returns
-returns c = search (columns_fit, rules)

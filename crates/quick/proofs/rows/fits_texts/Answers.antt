@@ -4,9 +4,6 @@ use Rattle.quick.specs.Rows.{col_at, five_texts}
 use Rattle.quick.proofs.CodeLaws.{five_turn, texts_from}
 use Rattle.quick.proofs.rows.fits_texts.Goals as goal
 
-pub loop-i-init : goal.loop-i-init
-loop-i-init c = (c.requires, λ q j h. absurd (omega arith))
-
 pub loop-i-preserved : goal.loop-i-preserved
 loop-i-preserved c =
     let a = c.args in

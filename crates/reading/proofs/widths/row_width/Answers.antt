@@ -1,15 +1,9 @@
 use borrow.Author.Rules.{rules}
-use Rattle.reading.proofs.WidthLaws.{seek_from, below, seek_found, seek_on, seek_done}
+use Rattle.reading.proofs.WidthLaws.{seek_from, seek_found, seek_on, seek_done}
 use Rattle.reading.proofs.widths.row_width.Goals as goal
 
 pub loop-i-init : goal.loop-i-init
 loop-i-init c = search (seek_from, rules)
-
-pub first_at-requires : goal.first_at-requires
-first_at-requires c = below c.loop-i.invariant c.loop-i-test.true
-
-pub width_at-requires : goal.width_at-requires
-width_at-requires c = below c.loop-i.invariant c.loop-i-test.true
 
 pub returns-then-column-from : goal.returns-then-column-from
 returns-then-column-from c = search (seek_found, rules)
