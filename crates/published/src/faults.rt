@@ -2,12 +2,6 @@
 use crate::text::{SPACE, lay, lay_columns, lay_number};
 use kinds::Fault;
 
-pub(crate) const ACCEPTED: Fault = Fault {
-    number: 0,
-    record: 0,
-    column: 0,
-};
-
 fn lay_named(out: &mut [u8; SPACE], at: usize, name: &[u8], n: u64) -> usize {
     let behind = lay(out, at, name);
     lay_number(out, behind, n)
@@ -21,13 +15,13 @@ pub(crate) fn lay_fault(out: &mut [u8; SPACE], f: Fault) -> usize {
 
 pub(crate) fn lay_outcome(
     out: &mut [u8; SPACE],
-    f: Fault,
+    answer: Result<(), Fault>,
     from: &[u8; SPACE],
     start: usize,
     width: usize,
 ) -> usize {
-    if f.number == 0 {
-        return lay_columns(out, from, start, width);
+    match answer {
+        Ok(()) => lay_columns(out, from, start, width),
+        Err(f) => lay_fault(out, f),
     }
-    lay_fault(out, f)
 }

@@ -1,12 +1,10 @@
 // The calls on one record: read, field and write.
 use crate::cells::Spot;
-use crate::faults::{ACCEPTED, lay_fault, lay_outcome};
+use crate::faults::{lay_fault, lay_outcome};
 use crate::text::{SPACE, first, lay, lay_quoted, lay_whole};
 use crate::values::{Value, read_value};
 use columns::Four;
-use kinds::{
-    Factor, Fault, Heights, Local, Network, Point, Reading, Record, Sequence, Title, Written,
-};
+use kinds::{Factor, Fault, Heights, Local, Network, Point, Record, Sequence, Title};
 
 fn lay_code(out: &mut [u8; SPACE], t: Four, n: usize) -> usize {
     let code = [t.0, t.1, t.2, t.3];
@@ -59,13 +57,6 @@ fn texts_of(what: Record) -> Texts {
     }
 }
 
-fn fault_of(w: Written) -> Fault {
-    match w {
-        Written::Done => ACCEPTED,
-        Written::Refused(f) => f,
-    }
-}
-
 // The values that were read, and the texts of their record, written into a line.
 fn write_values(
     line: &mut [u8; SPACE],
@@ -73,23 +64,21 @@ fn write_values(
     record: usize,
     s: Sequence,
     what: Record,
-) -> Written {
+) -> Result<(), Fault> {
     let t = texts_of(what);
     let first = reading::field(file, record, t.first);
     let second = reading::field(file, record, t.second);
     writing::write(line, s, what, first, second, b"")
 }
 
-fn write_back(line: &mut [u8; SPACE], file: &[u8], record: usize) -> Fault {
-    match reading::read(file, record) {
-        Reading::Refused(f) => f,
-        Reading::Values(s, what) => fault_of(write_values(line, file, record, s, what)),
-    }
+fn write_back(line: &mut [u8; SPACE], file: &[u8], record: usize) -> Result<(), Fault> {
+    let (s, what) = reading::read(file, record)?;
+    write_values(line, file, record, s, what)
 }
 
 // The columns of the example as they are written from the values that were read.
 pub(crate) fn lay_written(out: &mut [u8; SPACE], file: &[u8], spot: Spot) -> usize {
     let mut line = [b'.'; SPACE];
-    let f = write_back(&mut line, file, spot.record);
-    lay_outcome(out, f, &line, spot.start % 81, spot.width)
+    let written = write_back(&mut line, file, spot.record);
+    lay_outcome(out, written, &line, spot.start % 81, spot.width)
 }

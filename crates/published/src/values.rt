@@ -3,7 +3,7 @@ use columns::signs::{Split, SplitLong, split_long, split_sign};
 use columns::{Four, Height};
 use kinds::{
     Antenna, Factor, Fault, Heights, Instrument, Job, Local, Measurement, Network, Occupation,
-    Point, Reading, Record, Sequence, Two,
+    Point, Record, Sequence, Two,
 };
 
 #[derive(Clone, Copy)]
@@ -202,10 +202,10 @@ fn of_sequence(s: Sequence) -> Value {
     }
 }
 
-fn value_in(r: Reading, column: usize) -> Value {
+fn value_in(r: Result<(Sequence, Record), Fault>, column: usize) -> Value {
     match r {
-        Reading::Refused(f) => Value::Refused(f),
-        Reading::Values(s, what) => {
+        Err(f) => Value::Refused(f),
+        Ok((s, what)) => {
             if column == Sequence::NUMBER {
                 of_sequence(s)
             } else {

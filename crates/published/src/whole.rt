@@ -40,17 +40,20 @@ pub(crate) fn lay_referred(out: &mut [u8; SPACE], file: &[u8]) -> usize {
     lay_fault(out, fault)
 }
 
-fn rewrite_file(file: &[u8], space: &mut [u8; SPACE]) -> Fault {
+fn rewrite_file(file: &[u8], space: &mut [u8; SPACE]) -> Result<(), Fault> {
     let mut table = [0u32; 12000];
     let c = rewriting::rewrite(file, &mut table, space);
-    c.fault
+    if c.fault.number != 0 {
+        return Err(c.fault);
+    }
+    Ok(())
 }
 
 // The columns of the example as they stand in the rewritten file.
 pub(crate) fn lay_rewritten(out: &mut [u8; SPACE], file: &[u8], spot: Spot) -> usize {
     let mut space = [b'.'; SPACE];
-    let fault = rewrite_file(file, &mut space);
-    lay_outcome(out, fault, &space, spot.start, spot.width)
+    let rewritten = rewrite_file(file, &mut space);
+    lay_outcome(out, rewritten, &space, spot.start, spot.width)
 }
 
 // A tab is shown as the paper shows it, and a line feed in the same way.

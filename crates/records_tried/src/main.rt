@@ -7,7 +7,7 @@ mod refusals;
 ghost use Rattle.std.specs.Prelude.{◌≡◌, length};
 ghost use Rattle.std.specs.Io.{ReadsAtMost};
 
-use kinds::{Reading, Record, Sequence, Written};
+use kinds::{Record, Sequence};
 use print::{number, show_fault, show_record, show_sequence, text};
 use refusals::write_refused;
 use std::io;
@@ -74,23 +74,21 @@ fn write_back(rt: &impl Print, file: &[u8], r: usize, s: Sequence, what: Record)
     let second = reading::field(file, r, t.second);
     let third = reading::field(file, r, t.third);
     let mut out = [b'.'; 82];
-    let w = writing::write(&mut out, s, what, first, second, third);
-    match w {
-        Written::Done => text(rt, &out)?,
-        Written::Refused(f) => show_fault(rt, f)?,
+    match writing::write(&mut out, s, what, first, second, third) {
+        Ok(()) => text(rt, &out)?,
+        Err(f) => show_fault(rt, f)?,
     }
     text(rt, b"\n")
 }
 
 fn show(rt: &impl Print, file: &[u8], r: usize) -> io::Result<()> {
     number(rt, r as u64)?;
-    let reading = reading::read(file, r);
-    match reading {
-        Reading::Refused(f) => {
+    match reading::read(file, r) {
+        Err(f) => {
             show_fault(rt, f)?;
             show_fields(rt, file, r)
         }
-        Reading::Values(s, what) => {
+        Ok((s, what)) => {
             show_sequence(rt, s)?;
             show_record(rt, what)?;
             text(rt, b"\n")?;

@@ -2,8 +2,7 @@
 use crate::print::{show_fault, text};
 use columns::Height;
 use kinds::{
-    Factor, Heights, Job, Local, Measurement, Network, Point, Project, Record, Sequence, Three,
-    Two, Written,
+    Factor, Heights, Job, Local, Measurement, Network, Point, Project, Record, Sequence, Three, Two,
 };
 use std::io;
 
@@ -20,8 +19,8 @@ fn refused(
     text(rt, &out[0..1])?;
     text(rt, &out[80..81])?;
     match w {
-        Written::Done => text(rt, b"written\n"),
-        Written::Refused(f) => show_fault(rt, f),
+        Ok(()) => text(rt, b"written\n"),
+        Err(f) => show_fault(rt, f),
     }
 }
 
@@ -261,8 +260,8 @@ fn too_short(rt: &impl Print) -> io::Result<()> {
     text(rt, &out[0..1])?;
     text(rt, &out[79..80])?;
     match w {
-        Written::Done => text(rt, b"written\n"),
-        Written::Refused(f) => show_fault(rt, f),
+        Ok(()) => text(rt, b"written\n"),
+        Err(f) => show_fault(rt, f),
     }
 }
 
