@@ -20,7 +20,7 @@ use Rattle.rules.proofs.Bounds.{write_bounds}
 use Rattle.columns.proofs.Signed.{widened}
 use Rattle.columns.specs.declared.Four.{Four}
 use Rattle.columns.specs.declared.Media.{Media}
-use Rattle.std.specs.Prelude.{Result, Ok, Err}
+use Rattle.std.specs.Prelude.{Result, Ok, Err, Option, Some, None}
 use Rattle.kinds.specs.declared.Two.{Two}
 use Rattle.kinds.specs.declared.Three.{Three}
 use Rattle.kinds.specs.declared.Project.{Project}
@@ -44,7 +44,6 @@ use Rattle.kinds.specs.Values.{kind_number, meaning_of, written_of}
 use Rattle.answers.specs.Answers.{Small, fault_words, answered, touched}
 use Rattle.answers.specs.Given.{word_at, held_or, number_of, digit_of, signed_of, is_least, height_of, sequence_of, character_at, number_at, two_at, three_at, four_at, media_at, project_given, occupation_given, measurement_given, point_given, heights_given, network_given, local_given, records_given, record_given, given, sequence_given, written_words, Noted}
 use Rattle.export.proofs.AnswerLaws.{long_answer, long_touched}
-use Rattle.std.specs.Prelude.{Option, Some, None, Result, Ok, Err}
 use Rattle.std.specs.Result.{OkIff}
 use Rattle.std.specs.Result.{result_unwrap_or}
 use Rattle.std.proofs.lemmas.List.{get_or_past}

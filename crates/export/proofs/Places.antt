@@ -24,7 +24,7 @@ use Rattle.rules.proofs.Truth.{both, and, to≤, of≤, to≡, cases, to_within}
 use Rattle.rules.proofs.RecordLaws.{read_line_splits, line_meant}
 use Rattle.rules.proofs.ReferenceLaws.{length-tabulate}
 use Rattle.rules.proofs.Bounds.{Bounded, answer_bounded, form_bounded, reference_refused, unread_bounds}
-use Rattle.std.specs.Prelude.{Result, Ok, Err}
+use Rattle.std.specs.Prelude.{Result, Ok, Err, Option}
 use Rattle.kinds.specs.declared.Checked.{Checked}
 use Rattle.kinds.specs.declared.Fault.{Fault}
 use Rattle.columns.specs.Types.{nat_of}
@@ -40,7 +40,6 @@ use Rattle.pulling.specs.Promise.{pulled_of}
 use Rattle.pulling.proofs.PullDemands.{demand_1_pull}
 use Rattle.answers.specs.Answers.{Small, Counted}
 use Rattle.answers.specs.Words.{deviations_of, in_range, Told}
-use Rattle.std.specs.Prelude.{Option}
 
 -- ---- form, references and rewrite
 fourteen : (v : files.Result) (ms : List Meaning) → length (answer v ms).counts ≡ 14

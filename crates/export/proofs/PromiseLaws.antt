@@ -7,7 +7,7 @@ use lib.IntN.{ℤ}
 use Rattle.rules.specs.Calls.{form_answer, references_answer, references_table, rewrite_answer, rewrite_table, rewrite_output, read_of, field_of, write_verdict, write_output}
 use Rattle.rules.specs.Padding.{pad_answer, pad_output}
 use Rattle.rules.specs.Pulling.{pull_answer, pull_output, pull_faults}
-use Rattle.std.specs.Prelude.{Result}
+use Rattle.std.specs.Prelude.{Result, Option}
 use Rattle.kinds.specs.declared.Record.{Record}
 use Rattle.kinds.specs.declared.Fault.{Fault}
 use Rattle.kinds.specs.declared.Checked.{Checked}
@@ -23,7 +23,6 @@ use Rattle.answers.specs.Promise.{Forms, Refers, Rewrites, Pads, Pulls, Reads, F
 use Rattle.export.proofs.AnswerLaws.{short_answer, long_answer, untouched, long_touched, checked_answer, field_none, field_some}
 use Rattle.export.proofs.WordLaws.{read_answer}
 use Rattle.export.proofs.GivenLaws.{write_answer, write_left}
-use Rattle.std.specs.Prelude.{Option}
 use Rattle.columns.specs.Types.{count_value}
 
 -- ---- too short an answer

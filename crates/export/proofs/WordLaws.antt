@@ -16,7 +16,7 @@ use Rattle.rules.specs.Tests.{all, ◌≤?◌}
 use Rattle.rules.proofs.Truth.{both, to≤}
 use Rattle.columns.specs.declared.Four.{Four}
 use Rattle.columns.specs.declared.Media.{Media}
-use Rattle.std.specs.Prelude.{Result, Ok, Err}
+use Rattle.std.specs.Prelude.{Result, Ok, Err, Option, Some, None}
 use Rattle.kinds.specs.declared.Two.{Two}
 use Rattle.kinds.specs.declared.Three.{Three}
 use Rattle.kinds.specs.declared.Project.{Project}
@@ -40,7 +40,6 @@ use Rattle.kinds.specs.Values.{kind_number}
 use Rattle.answers.specs.Words.{height_word, sequence_word, two_words, three_words, four_words, media_words, project_words, occupation_words, measurement_words, point_words, heights_first, heights_words, network_words, local_words, value_words, padded, read_words, deviations_of, in_range, Told, laid}
 use Rattle.answers.specs.Answers.{Small, answered}
 use Rattle.export.proofs.AnswerLaws.{long_answer}
-use Rattle.std.specs.Prelude.{Option, Some, None}
 
 -- ---- one word
 pub put_past : (w : List ℤ) (at : ℕ) (z : ℤ) → length w ≤ at → w ≡ set w at z

@@ -6,7 +6,7 @@ use Prim.Native.Nat.{ℕ, ◌+◌, ◌≤◌}
 use native.Mathlib.Omega.{arith}
 use lib.Dec.{lit≤}
 use lib.ListN.{length}
-use Rattle.std.specs.Prelude.{Result}
+use Rattle.std.specs.Prelude.{Result, Option}
 use Rattle.rules.specs.Tests.{◌&◌, ◌=?◌, within}
 use Rattle.rules.specs.Characters.{is_digit, is_letter, letter, digit, ◌or◌, member}
 use Rattle.rules.specs.Digits.{val}
@@ -28,7 +28,6 @@ use Rattle.kinds.proofs.ValueLaws.{code_kind, ⨾_ok}
 use Rattle.given_records.specs.Judging.{layout_of, judge_record}
 use Rattle.given_records.proofs.JudgeLaws.{⨾_same}
 use Rattle.given_records.proofs.KindLaws.{word_of}
-use Rattle.std.specs.Prelude.{Option}
 
 -- ---- the fourteen kinds
 below_14 : (r : Record) → kind_number r ≤ 13

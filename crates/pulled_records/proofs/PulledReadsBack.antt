@@ -17,8 +17,10 @@ use Rattle.rules.specs.Calls.{values, unread, read_of}
 use Rattle.rules.specs.Pulling.{pulled_lines}
 use Rattle.rules.proofs.Truth.{and, of≤, of_within}
 use Rattle.rules.proofs.PullingLaws.{taken, style_back, line_81, pulled_long, pulled_at}
+use Rattle.std.specs.Prelude.{Result, Ok, Err, Option, Some}
+use Rattle.kinds.proofs.ValueLaws.{same_values}
 use Rattle.kinds.specs.declared.Record.{Record}
-use Rattle.kinds.specs.declared.Reading.{Reading}
+use Rattle.kinds.specs.declared.Fault.{Fault}
 use Rattle.kinds.specs.Values.{record_of, reading_of}
 use Rattle.reading.specs.Promise.{PromisedReading}
 use Rattle.pulling.proofs.PullDemands.{line_is, lines_are, demand_2_pull}
@@ -26,7 +28,6 @@ use Rattle.round_trips.specs.Texts.{text_at}
 use Rattle.round_trips.proofs.MeaningBack.{texts_of}
 use Rattle.round_trips.proofs.ReadWritesBack.{same_text}
 use Rattle.pulled_records.specs.AfterPull.{Pull, pulled_part, ReadsBack}
-use Rattle.std.specs.Prelude.{Option, Some}
 use Rattle.columns.specs.Types.{count_of}
 
 -- what read gives as values, in the rules' terms
@@ -36,25 +37,25 @@ record Given (f : List ℕ) (r : ℕ) (s : Option ℕ) (w : Record) : Type 0 whe
   pub read : read_of f r ≡ values number meant
   pub record_is : w ≡ record_of meant
 
-given : (f : List ℕ) (r : ℕ) (s : Option ℕ) (w : Record) → PromisedReading f r (Reading.Values s w) → Given f r s w
+given : (f : List ℕ) (r : ℕ) (s : Option ℕ) (w : Record) → PromisedReading f r (Ok (s, w)) → Given f r s w
 unfolding reading_of
 given f r s w p = by (read_of f r) refl p.answered
   where
-    by : (x : calls.Reading) → read_of f r ≡ x → Reading.Values s w ≡ reading_of (read_of f r) → Given f r s w
+    by : (x : calls.Reading) → read_of f r ≡ x → Ok (s, w) ≡ reading_of (read_of f r) → Given f r s w
     by (values q m) e h =
-        let same : Reading.Values s w ≡ Reading.Values (count_of q) (record_of m) = h ∙ rw e in
-        record { number = q; meant = m; read = e; record_is = cc }
+        let same : ◌≡◌ {A = Result (Option ℕ × Record) Fault} (Ok (s, w)) (Ok (count_of q, record_of m)) = h ∙ rw e in
+        record { number = q; meant = m; read = e; record_is = (same_values same).1 }
     by (unread n a c) e h =
-        let clash : Reading.Values s w ≡ Reading.Refused record { number = n; «record» = a; column = c } = h ∙ rw e in
+        let clash : ◌≡◌ {A = Result (Option ℕ × Record) Fault} (Ok (s, w)) (Err record { number = n; «record» = a; column = c }) = h ∙ rw e in
         let z : ◌≡◌ {A = ℕ} 0 1 = cc in
         absurd (omega arith)
 
-as_values : (g : List ℕ) (n k : ℕ) (m : Meaning) (w : Record) → read_of g n ≡ values (num (pos k)) m → w ≡ record_of m → reading_of (read_of g n) ≡ Reading.Values (Some k) w
+as_values : (g : List ℕ) (n k : ℕ) (m : Meaning) (w : Record) → read_of g n ≡ values (num (pos k)) m → w ≡ record_of m → reading_of (read_of g n) ≡ Ok (Some k, w)
 unfolding reading_of count_of
 as_values g n k m w e h = rw (e, h)
 
 -- entry i of a run asks for record r, which read gives with values
-module _ (f rs : List ℕ) (x : Pull f rs) (i : ℕ) (h : i < length rs) (s : Option ℕ) (w : Record) (was_read : PromisedReading f (get_or rs i 0) (Reading.Values s w)) where
+module _ (f rs : List ℕ) (x : Pull f rs) (i : ℕ) (h : i < length rs) (s : Option ℕ) (w : Record) (was_read : PromisedReading f (get_or rs i 0) (Ok (s, w))) where
   abbrev r : ℕ
   r = get_or rs i 0
 
@@ -69,13 +70,13 @@ module _ (f rs : List ℕ) (x : Pull f rs) (i : ℕ) (h : i < length rs) (s : Op
     back : read_of g n ≡ values (num (pos (10 * r))) its.meant
     back = style_back f r its.meant (taken f r its.number its.meant its.read) g n there (e ∙ its_line)
 
-    is_values : (y : Reading) → PromisedReading g n y → y ≡ Reading.Values (Some (10 * r)) w
+    is_values : (y : Result (Option ℕ × Record) Fault) → PromisedReading g n y → y ≡ Ok (Some (10 * r), w)
     is_values y p = p.answered ∙ as_values g n (10 * r) its.meant w back its.record_is
 
     same_meaning : meaning chapter4 (line_at g (n - 1)) ≡ meaning chapter4 (line_at f (r - 1))
     same_meaning = sym (taken g n (num (pos (10 * r))) its.meant back).means ∙ (taken f r its.number its.meant its.read).means
 
-    promised_back : PromisedReading g n (Reading.Values (Some (10 * r)) w)
+    promised_back : PromisedReading g n (Ok (Some (10 * r), w))
     promised_back = record { answered = sym (as_values g n (10 * r) its.meant w back its.record_is) }
 
     same_texts : (j : ℕ) → text_at g n w j ≡ text_at f r w j

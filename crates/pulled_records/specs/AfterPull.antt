@@ -1,7 +1,7 @@
 -- 02, T-07: a pulled record that reads back as the record's values, and all records of a file pulled in order, stated of pull and of read, field or rewrite.
-use Rattle.std.specs.Prelude.{◌≡◌, List, ℕ, ◌*◌, length, take, get_or, Some}
+use Rattle.std.specs.Prelude.{◌≡◌, List, ℕ, ◌*◌, length, take, get_or, Result, Ok, Some, Option, Some}
 use Rattle.kinds.specs.declared.Record.{Record}
-use Rattle.kinds.specs.declared.Reading.{Reading}
+use Rattle.kinds.specs.declared.Fault.{Fault}
 use Rattle.reading.specs.Promise.{PromisedReading, PromisedPart}
 use Rattle.pulling.specs.declared.Pulled.{Pulled}
 use Rattle.pulling.specs.Promise as pull
@@ -26,6 +26,6 @@ faults_part {f} {rs} x = take (length rs) x.places_left
 
 -- record n of a file g reads back as record r of f, whose values are w: 10 times r, the same values, the same texts at their columns
 pub record ReadsBack (f : List ℕ) (r : ℕ) (w : Record) (g : List ℕ) (n : ℕ) : Type 1 where
-  pub values : (x : Reading) → PromisedReading g n x → x ≡ Reading.Values (Some (10 * r)) w
+  pub values : (x : Result (Option ℕ × Record) Fault) → PromisedReading g n x → x ≡ Ok (Some (10 * r), w)
   pub texts : (i : ℕ) {B C : Type 0} (block : B) (other : C) (start begin : ℕ) (x y : List ℕ) (b : B) (c : C) (at from : ℕ)
       → PromisedPart f r (get_or (text_columns w) i 0) block start x b at → PromisedPart g n (get_or (text_columns w) i 0) other begin y c from → y ≡ x

@@ -6,7 +6,7 @@ use Prim.Native.Nat.{ℕ, ◌+◌, ◌-◌, ◌*◌, ◌≤◌, ◌<◌}
 use native.Mathlib.Omega.{arith}
 use lib.Dec.{leb}
 use lib.ListN.{length, take, drop, get_or}
-use Rattle.std.specs.Prelude.{Result, Ok, Err, is_err}
+use Rattle.std.specs.Prelude.{Result, Ok, Err, is_err, Option}
 use Rattle.rules.specs.Tests.{◌&◌, ◌≤?◌, ◌=?◌, within}
 use Rattle.rules.specs.Items.{value_of}
 use Rattle.rules.specs.Fields.{Verdict, ok, fault, is_ok}
@@ -29,7 +29,6 @@ use Rattle.columns.proofs.Loops.{&_is}
 use Rattle.reading.specs.Values.{record_in}
 use Rattle.reading.specs.Widths.{width_in}
 use Rattle.reading.proofs.WidthLaws.{field_inside}
-use Rattle.std.specs.Prelude.{Option}
 use Rattle.columns.specs.Types.{count_of}
 
 pub there_is : (r n : ℕ) → ((leb 1 r && leb r 99_999) && leb r n) ≡ within 1 99_999 r & r ≤? n

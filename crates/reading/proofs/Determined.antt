@@ -2,11 +2,10 @@
 use mathlib.Core.Path.{◌≡◌, sym, ◌∙◌}
 use mathlib.Core.List.{List}
 use Prim.Native.Nat.{ℕ}
-use Rattle.std.specs.Prelude.{Result}
+use Rattle.std.specs.Prelude.{Result, Option}
 use Rattle.kinds.specs.declared.Fault.{Fault}
 use Rattle.kinds.specs.declared.Record.{Record}
 use Rattle.reading.specs.Promise.{PromisedReading, PromisedPart}
-use Rattle.std.specs.Prelude.{Option}
 
 pub one_reading : (f : List ℕ) (n : ℕ) (r s : Result (Option ℕ × Record) Fault) → PromisedReading f n r → PromisedReading f n s → r ≡ s
 one_reading f n r s p q = p.answered ∙ sym q.answered

@@ -6,7 +6,7 @@ use Prim.Native.Nat.{ℕ, ◌-◌, ◌≤◌}
 use native.Mathlib.Omega.{arith}
 use lib.ListN.{length, get_or, take, drop}
 use lib.IntN.{pos, negsuc}
-use Rattle.std.specs.Prelude.{Result, Ok, Err}
+use Rattle.std.specs.Prelude.{Result, Ok, Err, Option}
 use Rattle.rules.specs.Tests.{◌&◌, ◌≤?◌, within}
 use Rattle.rules.specs.Items.{Value, gap, missing, num, text, label, value_of, fits, on_number}
 use Rattle.rules.specs.Fields.{Verdict, ok, fault, check, is_ok}
@@ -31,7 +31,6 @@ use Rattle.writing.specs.Promise.{Promised}
 use Rattle.round_trips.specs.Texts.{text_columns, text_at}
 use Rattle.round_trips.proofs.MeaningBack.{texts_of, meaning_back}
 use Rattle.round_trips.proofs.TextsBack.{text_in_line}
-use Rattle.std.specs.Prelude.{Option}
 use Rattle.columns.specs.Types.{count_of, count_value}
 
 -- a sequence number by way of its type

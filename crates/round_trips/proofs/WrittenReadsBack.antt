@@ -6,7 +6,7 @@ use Prim.Native.Nat.{ℕ, ◌-◌, ◌<◌}
 use native.Mathlib.Omega.{arith}
 use lib.Seq.{take_all, get_or-take}
 use lib.ListN.{length, take, get_or}
-use Rattle.std.specs.Prelude.{Result, Ok, Err}
+use Rattle.std.specs.Prelude.{Result, Ok, Err, Option}
 use Rattle.rules.specs.Tests.{◌&◌, ◌≤?◌, within}
 use Rattle.rules.specs.Items.{gap, value_of}
 use Rattle.rules.specs.Fields.{Verdict, ok, fault, is_ok}
@@ -26,7 +26,6 @@ use Rattle.writing.proofs.WriteLaws.{done_reads_back, done_number, done_record}
 use Rattle.round_trips.specs.Texts.{is_long, long_columns, text_columns, text_at}
 use Rattle.round_trips.proofs.MeaningBack.{texts, texts_of}
 use Rattle.round_trips.proofs.TextsBack.{text_in_line}
-use Rattle.std.specs.Prelude.{Option}
 use Rattle.columns.specs.Types.{count_of}
 
 read_ok : (n : ℕ) (l : List ℕ) (v : Verdict) → is_ok v ≡ true

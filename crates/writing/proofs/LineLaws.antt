@@ -5,7 +5,7 @@ use mathlib.Core.List.{List, [], ◌∷◌}
 use Prim.Native.Nat.{ℕ, ◌≤◌, ◌<◌}
 use lib.ListN.{length}
 use borrow.Rule.Slice.PartMut.{put_mid}
-use Rattle.std.specs.Prelude.{Result, Ok, Err}
+use Rattle.std.specs.Prelude.{Result, Ok, Err, Option}
 use Rattle.rules.specs.Tests.{◌≤?◌, all}
 use Rattle.rules.specs.Items.{Value, fits, render, number, media, angle, latitude, longitude, num}
 use Rattle.rules.specs.Fields.{Verdict, check, ◌⨾◌, is_ok, given, entries_of, is_formed, formed}
@@ -30,7 +30,6 @@ use Rattle.given_records.proofs.GivenLaws.{layout_is, told_is}
 use Rattle.styling.specs.Laying.{lay, lay_fields}
 use Rattle.styling.proofs.LayLaws.{line_laid}
 use Rattle.writing.specs.Promise.{Promised}
-use Rattle.std.specs.Prelude.{Option}
 
 -- ---- values that were judged good
 module _ (r : Record) (q : Value) (a b c : List ℕ) (h : is_ok (judge_given chapter4 (kind_number r) q (meaning_of r a b c)) ≡ true) where

@@ -5,7 +5,7 @@ use mathlib.Core.List.{List, ◌++◌}
 use Prim.Native.Nat.{ℕ}
 use lib.ListN.{length, take, drop}
 use lib.Seq.{take_at, drop_at}
-use Rattle.std.specs.Prelude.{Result, Ok, Err}
+use Rattle.std.specs.Prelude.{Result, Ok, Err, Option}
 use Rattle.rules.specs.Tests.{◌≤?◌}
 use Rattle.rules.specs.Items.{value_of}
 use Rattle.rules.specs.Fields.{Verdict, ok, fault, check, is_ok}
@@ -22,7 +22,6 @@ use Rattle.kinds.specs.Values.{kind_number, meaning_of, record_of, written_of}
 use Rattle.kinds.proofs.ValueLaws.{sequence_back, record-back}
 use Rattle.writing.specs.Promise.{Promised}
 use Rattle.writing.proofs.LineLaws.{given_kind}
-use Rattle.std.specs.Prelude.{Option}
 use Rattle.columns.specs.Types.{count_of, count_value}
 
 done_ok : (v : Verdict) → written_of v ≡ Ok tt → v ≡ ok
