@@ -20,11 +20,7 @@ fn put_counts(out: &mut [u32], counts: &[u32; 14])
     requires { (length out.old ≡ 14) × (length counts.now ≡ 14) }
     ensures { out.new ≡ counts.now }
 {
-    let mut i: usize = 0;
-    while i < 14 {
-        out[i] = counts[i];
-        i += 1;
-    }
+    out.copy_from_slice(counts);
 }
 
 pub(crate) fn put_checked(out: &mut [u32], v: Checked)

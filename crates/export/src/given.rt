@@ -1,11 +1,8 @@
 // A record and a sequence number out of words. What the type of a field cannot hold, and a word that is lacking, is taken for a
 // value that no field holds, so that write refuses it at the field's own column and after any fault further left.
-ghost use Rattle.std.specs.Prelude.{◌≡◌, ◌<◌, ◌^◌, ◌+◌};
-ghost use Rattle.rules.specs.Items.{signed};
-ghost use Rattle.columns.specs.Leaves.{split_long_of};
-ghost use Rattle.answers.specs.Given.{word_at, digit_of, signed_of, is_least, height_of, character_at, number_at, two_at, three_at, four_at, media_at, project_given, occupation_given, measurement_given, point_given, heights_given, network_given, local_given, record_given, given, sequence_given};
+ghost use Rattle.std.specs.Prelude.{◌≡◌, ◌<◌, ◌+◌};
+ghost use Rattle.answers.specs.Given.{word_at, digit_of, signed_of, height_of, character_at, number_at, two_at, three_at, four_at, media_at, project_given, occupation_given, measurement_given, point_given, heights_given, network_given, local_given, record_given, given, sequence_given};
 
-use columns::signs::{SplitLong, split_long};
 use columns::{Four, Height, Media};
 use kinds::{
     Antenna, Comment, Continuation, Factor, Heights, Instrument, Job, Local, Measurement, Network,
@@ -16,77 +13,36 @@ use kinds::{
 fn word_at(values: &[i64], i: usize) -> i64
     ensures { result ≡ word_at values.now i }
 {
-    if values.len() <= i {
-        return i64::MAX;
-    }
-    values[i]
-}
-
-fn split_at(values: &[i64], i: usize) -> SplitLong
-    ensures { result ≡ split_long_of (word_at values.now i) }
-{
-    split_long(word_at(values, i))
+    values.get(i).copied().unwrap_or(i64::MAX)
 }
 
 fn number_at(values: &[i64], i: usize) -> u32
     ensures { result ≡ number_at values.now i }
 {
-    match split_at(values, i) {
-        SplitLong::Plus(n) => {
-            if n <= 4_294_967_294 {
-                n as u32
-            } else {
-                4_294_967_295
-            }
-        }
-        SplitLong::Minus(n) => 4_294_967_295,
-    }
+    u32::try_from(word_at(values, i)).unwrap_or(u32::MAX)
 }
 
 fn character_at(values: &[i64], i: usize) -> u8
     ensures { result ≡ character_at values.now i }
 {
-    match split_at(values, i) {
-        SplitLong::Plus(n) => { if n <= 255 { n as u8 } else { 0 } }
-        SplitLong::Minus(n) => 0,
-    }
+    u8::try_from(word_at(values, i)).unwrap_or(0)
 }
 
 fn digit_at(values: &[i64], i: usize) -> u8
     ensures { result ≡ digit_of (word_at values.now i) }
 {
-    match split_at(values, i) {
-        SplitLong::Plus(n) => { if n <= 9 { n as u8 } else { 10 } }
-        SplitLong::Minus(n) => 10,
-    }
-}
-
-fn give_sign(negative: bool, v: u32) -> i32
-    requires { v < 2 ^ 31 }
-    ensures { result ≡ signed negative v }
-{
-    if negative { -(v as i32) } else { v as i32 }
+    u8::try_from(word_at(values, i)).unwrap_or(10).min(10)
 }
 
 // A height in millimetres.
 fn signed_at(values: &[i64], i: usize) -> i32
     ensures { result ≡ signed_of (word_at values.now i) }
 {
-    match split_at(values, i) {
-        SplitLong::Plus(n) => {
-            if n <= 99_999_999 {
-                give_sign(false, n as u32)
-            } else {
-                100_000_000
-            }
-        }
-        SplitLong::Minus(n) => {
-            if n <= 99_999_999 {
-                give_sign(true, n as u32)
-            } else {
-                100_000_000
-            }
-        }
+    let word = word_at(values, i);
+    if word.unsigned_abs() <= 99_999_999 {
+        word as i32
+    } else {
+        100_000_000
     }
 }
 
@@ -94,30 +50,21 @@ fn signed_at(values: &[i64], i: usize) -> i32
 fn correlation_at(values: &[i64], i: usize) -> i64
     ensures { result ≡ signed_of (word_at values.now i) }
 {
-    signed_at(values, i) as i64
+    i64::from(signed_at(values, i))
 }
 
 // A standard deviation.
 fn deviation_at(values: &[i64], i: usize) -> u64
     ensures { result ≡ number_at values.now i }
 {
-    number_at(values, i) as u64
+    u64::from(number_at(values, i))
 }
 
 // The least word is a missing height.
-fn is_missing(values: &[i64], i: usize) -> bool
-    ensures { result ≡ is_least (word_at values.now i) }
-{
-    match split_at(values, i) {
-        SplitLong::Plus(n) => false,
-        SplitLong::Minus(n) => n == 9_223_372_036_854_775_808,
-    }
-}
-
 fn height_at(values: &[i64], i: usize) -> Height
     ensures { result ≡ height_of (word_at values.now i) }
 {
-    if is_missing(values, i) {
+    if word_at(values, i) == i64::MIN {
         return Height::Missing;
     }
     Height::Mm(signed_at(values, i))
@@ -126,22 +73,10 @@ fn height_at(values: &[i64], i: usize) -> Height
 pub(crate) fn give_sequence(values: &[i64]) -> Sequence
     ensures { result ≡ sequence_given values.now }
 {
-    match split_at(values, 1) {
-        SplitLong::Plus(n) => {
-            if n <= 4_294_967_294 {
-                Sequence::Number(n as u32)
-            } else {
-                Sequence::Number(4_294_967_295)
-            }
-        }
-        SplitLong::Minus(n) => {
-            if n == 1 {
-                Sequence::Missing
-            } else {
-                Sequence::Number(4_294_967_295)
-            }
-        }
+    if word_at(values, 1) == -1 {
+        return Sequence::Missing;
     }
+    Sequence::Number(number_at(values, 1))
 }
 
 fn two_at(values: &[i64], i: usize) -> Two
@@ -184,11 +119,11 @@ fn media_at(values: &[i64], i: usize) -> Media
     let session = character_at(values, i + 3);
     let mark = four_at(values, i + 4);
     Media {
-        maker: maker,
-        day: day,
-        year: year,
-        session: session,
-        mark: mark,
+        maker,
+        day,
+        year,
+        session,
+        mark,
     }
 }
 
@@ -283,67 +218,25 @@ fn give_local(values: &[i64]) -> Local
     )
 }
 
-// The first seven kinds.
-fn give_low(values: &[i64], kind: u32) -> Record
-    requires { kind < 7 }
-    ensures { result ≡ record_given kind values.now }
-{
-    if kind < 1 {
-        return Record::Job(Job::new(character_at(values, 2), character_at(values, 3)));
-    }
-    if kind < 2 {
-        return Record::Title(Title::new());
-    }
-    if kind < 3 {
-        return Record::Continuation(Continuation::new());
-    }
-    if kind < 4 {
-        return Record::Project(give_project(values));
-    }
-    if kind < 5 {
-        return Record::Occupation(give_occupation(values));
-    }
-    if kind < 6 {
-        return Record::Comment(Comment::new());
-    }
-    Record::Measurement(give_measurement(values))
-}
-
-// The others, and a job code that is none where there is no such kind.
-fn give_high(values: &[i64], kind: u32) -> Record
-    requires { 6 < kind }
-    ensures { result ≡ record_given kind values.now }
-{
-    if kind < 8 {
-        return Record::Instrument(Instrument::new(number_at(values, 2), number_at(values, 3)));
-    }
-    if kind < 9 {
-        return Record::Antenna(Antenna::new(number_at(values, 2), four_at(values, 3)));
-    }
-    if kind < 10 {
-        return Record::Point(give_point(values));
-    }
-    if kind < 11 {
-        return Record::Heights(give_heights(values));
-    }
-    if kind < 12 {
-        return Record::Network(give_network(values));
-    }
-    if kind < 13 {
-        return Record::Local(give_local(values));
-    }
-    if kind < 14 {
-        return Record::Factor(Factor::new(number_at(values, 2), number_at(values, 3)));
-    }
-    Record::Job(Job::new(0, 0))
-}
-
+// Word 0 is the kind, by its number of include/shelf.h; where there is no such kind, a job code that is none.
 pub(crate) fn give_record(values: &[i64]) -> Record
     ensures { result ≡ given values.now }
 {
-    let kind = number_at(values, 0);
-    if kind < 7 {
-        return give_low(values, kind);
+    match number_at(values, 0) {
+        0 => Record::Job(Job::new(character_at(values, 2), character_at(values, 3))),
+        1 => Record::Title(Title::new()),
+        2 => Record::Continuation(Continuation::new()),
+        3 => Record::Project(give_project(values)),
+        4 => Record::Occupation(give_occupation(values)),
+        5 => Record::Comment(Comment::new()),
+        6 => Record::Measurement(give_measurement(values)),
+        7 => Record::Instrument(Instrument::new(number_at(values, 2), number_at(values, 3))),
+        8 => Record::Antenna(Antenna::new(number_at(values, 2), four_at(values, 3))),
+        9 => Record::Point(give_point(values)),
+        10 => Record::Heights(give_heights(values)),
+        11 => Record::Network(give_network(values)),
+        12 => Record::Local(give_local(values)),
+        13 => Record::Factor(Factor::new(number_at(values, 2), number_at(values, 3))),
+        _ => Record::Job(Job::new(0, 0)),
     }
-    give_high(values, kind)
 }

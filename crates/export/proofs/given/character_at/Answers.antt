@@ -1,12 +1,11 @@
-use Rattle.export.proofs.GivenLaws.{held_fits, held_large, held_below}
-use borrow.Author.Rules.{rules}
+use Rattle.std.proofs.Common.{ap, ◌∙◌}
+use mir.Facts.{to_z-of_z}
+use mir.Syntax.{w64}
+use Rattle.answers.specs.Given.{character_of}
+use Rattle.export.proofs.GivenLaws.{character_tried}
 use Rattle.export.proofs.given.character_at.Goals as goal
 
-pub returns-then-n-le255 : goal.returns-then-n-le255
-returns-then-n-le255 c = search (held_fits, rules)
-
-pub returns-else-n-le255 : goal.returns-else-n-le255
-returns-else-n-le255 c = search (held_large, rules)
-
-pub returns-in-Minus : goal.returns-in-Minus
-returns-in-Minus c = search (held_below, rules)
+pub returns : goal.returns
+returns c =
+    let whole = to_z-of_z {w = w64} {z = c.word_at.result} record { sfits = c.word_at.type_inv } in
+    c.unwrap_or.ensures ∙ character_tried c.try_from.result _ c.try_from.ensures ∙ ap character_of (whole ∙ c.word_at.ensures)

@@ -1,12 +1,12 @@
-use Rattle.export.proofs.GivenLaws.{held_fits, held_large, held_below}
-use borrow.Author.Rules.{rules}
+use Rattle.std.proofs.Common.{ap, ◌∙◌}
+use Prim.Native.Nat.{min}
+use mir.Facts.{to_z-of_z}
+use mir.Syntax.{w64}
+use Rattle.answers.specs.Given.{digit_of}
+use Rattle.export.proofs.GivenLaws.{digit_tried}
 use Rattle.export.proofs.given.digit_at.Goals as goal
 
-pub returns-then-n-le9 : goal.returns-then-n-le9
-returns-then-n-le9 c = search (held_fits, rules)
-
-pub returns-else-n-le9 : goal.returns-else-n-le9
-returns-else-n-le9 c = search (held_large, rules)
-
-pub returns-in-Minus : goal.returns-in-Minus
-returns-in-Minus c = search (held_below, rules)
+pub returns : goal.returns
+returns c =
+    let whole = to_z-of_z {w = w64} {z = c.word_at.result} record { sfits = c.word_at.type_inv } in
+    c.min.ensures ∙ ap (λ n. min n 10) c.unwrap_or.ensures ∙ digit_tried c.try_from.result _ c.try_from.ensures ∙ ap digit_of (whole ∙ c.word_at.ensures)

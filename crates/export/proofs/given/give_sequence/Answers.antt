@@ -1,15 +1,12 @@
-use Rattle.export.proofs.GivenLaws.{sequence_fits, sequence_large, sequence_none, sequence_below}
-use borrow.Author.Rules.{rules}
+use Rattle.std.proofs.Common.{ap, sym, ◌∙◌}
+use Rattle.kinds.specs.declared.Sequence.{Sequence}
+use Rattle.answers.specs.Given.{sequence_of, number_of}
+use Rattle.export.proofs.GivenLaws.{sequence_none, sequence_some}
 use Rattle.export.proofs.given.give_sequence.Goals as goal
 
-pub returns-then-n-le4294967294 : goal.returns-then-n-le4294967294
-returns-then-n-le4294967294 c = search (sequence_fits, rules)
+pub returns-then-word_at-eq18446744073709551615 : goal.returns-then-word_at-eq18446744073709551615
+returns-then-word_at-eq18446744073709551615 c = sequence_none c.word_at.result record { sfits = c.word_at.type_inv } c.if-word_at-eq18446744073709551615.true ∙ ap sequence_of c.word_at.ensures
 
-pub returns-else-n-le4294967294 : goal.returns-else-n-le4294967294
-returns-else-n-le4294967294 c = search (sequence_large, rules)
-
-pub returns-then-n-eq1 : goal.returns-then-n-eq1
-returns-then-n-eq1 c = search (sequence_none, rules)
-
-pub returns-else-n-eq1 : goal.returns-else-n-eq1
-returns-else-n-eq1 c = search (sequence_below, rules)
+pub returns : goal.returns
+returns c =
+    ap Sequence.Number (c.number_at.ensures ∙ ap number_of (sym c.word_at.ensures)) ∙ sequence_some c.word_at.result record { sfits = c.word_at.type_inv } c.if-word_at-eq18446744073709551615.false ∙ ap sequence_of c.word_at.ensures
