@@ -12,6 +12,7 @@ pub(crate) fn put_fault(out: &mut [u32], f: Fault)
     ensures { out.new ≡ fault_words f }
 {
     out[0] = f.number;
+    // Kept `as`: a fault that is Small fits, which a check at run time would only say again.
     out[1] = f.record as u32;
     out[2] = f.column as u32;
 }
