@@ -2,10 +2,9 @@
 use mathlib.Core.Path.{◌≡◌, refl, sym, ◌∙◌, ap}
 use mathlib.Core.List.{List, [], ◌∷◌, ◌++◌, append-nil}
 use Prim.Native.Nat.{ℕ, ◌+◌, ◌-◌, ◌*◌, ◌≤◌, ◌<◌}
-use native.Mathlib.Numerals.{add-one}
 use native.Mathlib.Omega.{arith}
-use lib.ListN.{length, take, drop, get_or, set, length-take, length-drop, drop_of_length-le}
-use lib.Seq.{take-suc, take-suc-set, take_all, drop-drop}
+use lib.ListN.{length, drop, set, length-take, length-drop, drop_of_length-le}
+use lib.Seq.{drop-drop}
 use borrow.Rule.Slice.PartMut.{put_mid}
 use Rattle.rules.specs.Tests.{◌=?◌}
 use Rattle.rules.specs.Calls.{field_offset, field_of, width_asked}
@@ -61,13 +60,6 @@ padded-words (a ∷ b ∷ []) xs v h p = absurd (omega arith)
 padded-words (a ∷ b ∷ c ∷ []) xs v h p = absurd (omega arith)
 padded-words (a ∷ b ∷ c ∷ d ∷ []) xs v h p = rw p
 padded-words (a ∷ b ∷ c ∷ d ∷ e ∷ old) xs v h p = absurd (omega arith)
-
--- ---- words copied one after the other
-pub copy_more : (s t : List ℕ) (i : ℕ) → i < length s → i < length t → take i t ≡ take i s → take (i + 1) (set t i (get_or s i 0)) ≡ take (i + 1) s
-copy_more s t i h k e = rw (add-one i, take-suc-set t i (get_or s i 0) k, take-suc s i 0 h, e)
-
-pub copy_done : (s t : List ℕ) (n i : ℕ) → length s ≡ n → length t ≡ n → n ≤ i → take i t ≡ take i s → t ≡ s
-copy_done s t n i p q h e = sym (take_all i t (omega arith)) ∙ e ∙ take_all i s (omega arith)
 
 -- ---- field
 field_width_lem : (f : List ℕ) (r c : ℕ) → length (field_of f r c) ≡ width_asked f r c

@@ -1,26 +1,31 @@
 -- Words taken for values: what its field's type cannot hold is taken for a value that no field holds.
 use mathlib.Core.Path.{◌≡◌, refl, sym, ◌∙◌, ap}
-use mathlib.Core.Bool.{Bool, true, false, cond}
-use mathlib.Core.List.{List, [], ◌∷◌, ◌++◌}
-use Prim.Native.Nat.{ℕ, zero, suc, ◌+◌, ◌≤◌, ◌<◌}
+use mathlib.Core.Bool.{true, false, Bool, cond}
+use mathlib.Core.List.{List, ◌++◌, [], ◌∷◌}
+use Prim.Native.Nat.{ℕ, suc, ◌+◌, ◌≤◌, ◌<◌, min, zero, ◌^◌}
 use native.Mathlib.Omega.{arith}
-use lib.ListN.{length, get_or, drop}
+use lib.ListN.{length, drop, get_or}
 use lib.IntN.{ℤ, pos, negsuc, nat_abs}
-use lib.Dec.{eqb}
+use mir.Facts.{to_z-of_z}
 use mir.Syntax.{w32, w64}
 use mir.Val.{SFits, to_z, of_z}
-use mir.ValLaws.{to_z-of_z}
-use Rattle.rules.specs.Tests.{◌=?◌, ◌≤?◌}
+use Rattle.std.specs.Int.{FitsUnsignedBits}
+use Rattle.std.specs.Slice.{IsItemAt}
+use Rattle.std.specs.Option.{unwrap_or, option_copied}
+use Rattle.std.specs.Result.{OkIff, result_unwrap_or}
+use Rattle.std.specs.declared.option.Option.{Option}
+use Rattle.std.specs.declared.result.Result.{Result}
+use Rattle.std.proofs.Common.{Ok, Err, Bor}
+use Rattle.std.proofs.lemmas.List.{get_or_past}
+use Rattle.rules.specs.Tests.{◌≤?◌, ◌=?◌}
 use Rattle.rules.specs.Items.{Value, signed}
 use Rattle.rules.specs.Fields.{Verdict, ok, fault}
 use Rattle.rules.specs.Records.{Meaning}
 use Rattle.rules.specs.Calls.{write_verdict, write_output}
-use Rattle.rules.proofs.Truth.{of≤, of>, of≡, of≢, to≤, no≤, cases}
+use Rattle.rules.proofs.Truth.{to≤, of≤, no≤, of>, of≡, of≢, cases}
 use Rattle.rules.proofs.Bounds.{write_bounds}
-use Rattle.columns.proofs.Signed.{widened}
 use Rattle.columns.specs.declared.Four.{Four}
 use Rattle.columns.specs.declared.Media.{Media}
-use Rattle.std.specs.Prelude.{Result, Ok, Err, Option, Some, None}
 use Rattle.kinds.specs.declared.Two.{Two}
 use Rattle.kinds.specs.declared.Three.{Three}
 use Rattle.kinds.specs.declared.Project.{Project}
@@ -42,97 +47,83 @@ use Rattle.kinds.specs.declared.Record.{Record}
 use Rattle.kinds.specs.declared.Record.TheVariants as R
 use Rattle.kinds.specs.Values.{kind_number, meaning_of, written_of}
 use Rattle.answers.specs.Answers.{Small, fault_words, answered, touched}
-use Rattle.answers.specs.Given.{word_at, held_or, number_of, digit_of, signed_of, is_least, height_of, sequence_of, character_at, number_at, two_at, three_at, four_at, media_at, project_given, occupation_given, measurement_given, point_given, heights_given, network_given, local_given, records_given, record_given, given, sequence_given, written_words, Noted}
+use Rattle.answers.specs.Given.{word_at, held_or, number_of, character_of, digit_of, signed_of, is_least, height_of, sequence_of, character_at, number_at, two_at, three_at, four_at, media_at, project_given, occupation_given, measurement_given, point_given, heights_given, network_given, local_given, records_given, record_given, given, sequence_given, written_words, Noted}
 use Rattle.export.proofs.AnswerLaws.{long_answer, long_touched}
-use Rattle.std.specs.Result.{OkIff}
-use Rattle.std.specs.Result.{result_unwrap_or}
-use Rattle.std.proofs.lemmas.List.{get_or_past}
-use Rattle.std.specs.Int.{FitsUnsignedBits}
-use Prim.Native.Nat.{◌^◌}
+use lib.Dec.{eqb}
+use Rattle.columns.proofs.Signed.{widened}
+use Rattle.std.specs.Prelude.{Result, Ok, Err, Option, Some, None}
 use Rattle.columns.specs.Types.{count_value}
+use Rattle.std.specs.Prelude.{Option, Some, None}
 
 -- ---- one word
-not_less : (n m : ℕ) → (n < m → ⊥) → m ≤ n
-not_less n m h = cases (suc n ≤? m) (λ e. absurd (h (to≤ {m = suc n} {n = m} e))) (λ e. omega (arith, no≤ {m = suc n} {n = m} e))
+pub word_found : (ws : List ℤ) (i : ℕ) (r : Option (Bor ℤ)) → IsItemAt ws i r → unwrap_or (option_copied r) (pos 9_223_372_036_854_775_807) ≡ word_at ws i
+unfolding word_at
+word_found ws i r d = d.4 (omega arith) (pos 9_223_372_036_854_775_807)
 
 pub word_lacking : (ws : List ℤ) (i : ℕ) → length ws ≤ i → pos 9_223_372_036_854_775_807 ≡ word_at ws i
 unfolding word_at
 word_lacking ws i h = sym (get_or_past ws i (pos 9_223_372_036_854_775_807) h)
 
--- what its type holds goes into it, and anything else is the other number
-pub held_try : {E : Type 0} (k most other : ℕ) (z : ℤ) (r : Result ℕ E) → 2 ^ k ≡ suc most → OkIff r (FitsUnsignedBits k z) (nat_abs z) → result_unwrap_or r other ≡ held_or most other z
+clash : {A : Type 0} → ◌≡◌ {A = ℕ} 0 1 → A
+clash e = absurd (omega arith)
+
+-- what does not go into the type is none
+pub number_tried : {E : Type 0} (r : Result ℕ E) (z : ℤ) → OkIff r (FitsUnsignedBits 32 z) (nat_abs z) → result_unwrap_or r 4_294_967_295 ≡ number_of z
 unfolding held_or
-held_try k most other (pos n) (Ok x) e h = rw (h.1, of≤ {m = n} {n = most} (omega (arith, h.0, e)))
-held_try k most other (pos n) (Err x) e h = let m : most < n = omega (arith, e, not_less n (2 ^ k) h) in rw (of> {m = n} {n = most} m)
-held_try k most other (negsuc n) (Ok x) e h = absurd h.0
-held_try k most other (negsuc n) (Err x) e h = refl
+number_tried (Ok x) (pos n) (f, e) = cases (n ≤? 4_294_967_294) (λ h. rw (e, h)) (λ h. rw h (e ∙ omega (arith, no≤ h)))
+number_tried (Ok x) (negsuc n) (f, e) = absurd f
+number_tried (Err x) (pos n) f = rw (of> {m = n} {n = 4_294_967_294} (omega (arith, f)))
+number_tried (Err x) (negsuc n) f = refl
 
-top_of : (m n : ℕ) → m < n → cond (n ≤? suc m) n (suc m) ≡ suc m
-top_of m n h = cases (n ≤? suc m) (λ e. let q : n ≡ suc m = omega (arith, h, to≤ {m = n} {n = suc m} e) in rw (e, q)) (λ e. rw e)
-
--- the largest number of a type may itself be the other one
-pub held_top : (m : ℕ) (z : ℤ) → held_or (suc m) (suc m) z ≡ held_or m (suc m) z
+pub character_tried : {E : Type 0} (r : Result ℕ E) (z : ℤ) → OkIff r (FitsUnsignedBits 8 z) (nat_abs z) → result_unwrap_or r 0 ≡ character_of z
 unfolding held_or
-held_top m (pos n) = cases (n ≤? m) (λ e. rw (e, of≤ {m = n} {n = suc m} (omega (arith, to≤ {m = n} {n = m} e)))) (λ e. rw e (top_of m n (no≤ {m = n} {n = m} e)))
-held_top m (negsuc n) = refl
+character_tried (Ok x) (pos n) (f, e) = rw (e, of≤ {m = n} {n = 255} (omega (arith, f)))
+character_tried (Ok x) (negsuc n) (f, e) = absurd f
+character_tried (Err x) (pos n) f = rw (of> {m = n} {n = 255} (omega (arith, f)))
+character_tried (Err x) (negsuc n) f = refl
 
-pub digit_held : (z : ℤ) {d : ℕ} → d ≡ held_or 255 10 z → d ≤ 9 → d ≡ digit_of z
+pub digit_tried : {E : Type 0} (r : Result ℕ E) (z : ℤ) → OkIff r (FitsUnsignedBits 8 z) (nat_abs z) → min (result_unwrap_or r 10) 10 ≡ digit_of z
 unfolding held_or
-digit_held (pos n) {d} e h = cases (n ≤? 255)
-    (λ t. let q : d ≡ n = e ∙ rw t in q ∙ rw (of≤ {m = n} {n = 9} (omega (arith, h, q))))
-    (λ t. let q : d ≡ 10 = e ∙ rw t in absurd (omega (arith, h, q)))
-digit_held (negsuc n) e h = e
+digit_tried (Ok x) (pos n) (f, e) = cases (n ≤? 9) (λ h. rw h (omega (arith, e, to≤ h))) (λ h. rw h (omega (arith, e, no≤ h)))
+digit_tried (Ok x) (negsuc n) (f, e) = absurd f
+digit_tried (Err x) (pos n) f = rw (of> {m = n} {n = 9} (omega (arith, f)))
+digit_tried (Err x) (negsuc n) f = refl
 
-pub digit_other : (z : ℤ) {d : ℕ} → d ≡ held_or 255 10 z → 9 < d → 10 ≡ digit_of z
-unfolding held_or
-digit_other (pos n) {d} e h = cases (n ≤? 255)
-    (λ t. let q : d ≡ n = e ∙ rw t in rw (of> {m = n} {n = 9} (omega (arith, h, q))))
-    (λ t. rw (of> {m = n} {n = 9} (omega (arith, no≤ {m = n} {n = 255} t))))
-digit_other (negsuc n) e h = refl
+-- a height or a correlation, by how far it is from 0
+pub near_0 : (z : ℤ) → nat_abs z ≤ 99_999_999 → to_z w32 (of_z w32 z) ≡ signed_of z
+unfolding signed_of
+near_0 (pos n) h = to_z-of_z {w = w32} {z = pos n} record { sfits = omega (arith, h) } ∙ rw (of≤ {m = n} {n = 99_999_999} h)
+near_0 (negsuc n) h = to_z-of_z {w = w32} {z = negsuc n} record { sfits = omega (arith, h) } ∙ rw (of≤ {m = suc n} {n = 99_999_999} (omega (arith, h)))
 
--- a signed number: what is no further from zero than 99,999,999 fits 32 bits
-module _ {y : ℤ} {n : ℕ} (e : n ≡ nat_abs y) where
-  pub millimetres_narrow : (z : ℤ) → y ≡ z → n ≤ 99_999_999 → SFits w32 y
-  millimetres_narrow (pos m) q h = let k : n ≡ m = e ∙ ap nat_abs q in rw q (record { sfits = omega (arith, h, k) })
-  millimetres_narrow (negsuc m) q h = let k : n ≡ suc m = e ∙ ap nat_abs q in rw q (record { sfits = omega (arith, h, k) })
+pub far_from_0 : (z : ℤ) → 99_999_999 < nat_abs z → pos 100_000_000 ≡ signed_of z
+unfolding signed_of
+far_from_0 (pos n) h = rw (of> {m = n} {n = 99_999_999} h)
+far_from_0 (negsuc n) h = rw (of> {m = suc n} {n = 99_999_999} (omega (arith, h)))
 
-  pub millimetres_fit : (z : ℤ) → y ≡ z → n ≤ 99_999_999 → y ≡ signed_of z
-  unfolding signed_of
-  millimetres_fit (pos m) q h = let k : n ≡ m = e ∙ ap nat_abs q in q ∙ rw (of≤ {m = m} {n = 99_999_999} (omega (arith, h, k)))
-  millimetres_fit (negsuc m) q h = let k : n ≡ suc m = e ∙ ap nat_abs q in q ∙ rw (of≤ {m = suc m} {n = 99_999_999} (omega (arith, h, k)))
+-- the least word, by its bits
+least_bits : (z : ℤ) → SFits w64 z → (of_z w64 z ≡ 9_223_372_036_854_775_808 → is_least z ≡ true) × ((of_z w64 z ≡ 9_223_372_036_854_775_808 → ⊥) → is_least z ≡ false)
+unfolding is_least
+least_bits (pos n) f = (λ e. absurd (omega (arith, f.sfits, e)), λ e. refl)
+least_bits (negsuc n) f = (λ e. of≡ {m = suc n} {n = 9_223_372_036_854_775_808} (omega (arith, f.sfits, e)), λ e. of≢ {m = suc n} {n = 9_223_372_036_854_775_808} (λ y. e (omega (arith, y))))
 
-  pub millimetres_large : (z : ℤ) → y ≡ z → 99_999_999 < n → pos 100_000_000 ≡ signed_of z
-  unfolding signed_of
-  millimetres_large (pos m) q h = let k : n ≡ m = e ∙ ap nat_abs q in rw (of> {m = m} {n = 99_999_999} (omega (arith, h, k)))
-  millimetres_large (negsuc m) q h = let k : n ≡ suc m = e ∙ ap nat_abs q in rw (of> {m = suc m} {n = 99_999_999} (omega (arith, h, k)))
+pub height_none : (z : ℤ) → SFits w64 z → of_z w64 z ≡ 9_223_372_036_854_775_808 → None ≡ height_of z
+unfolding height_of
+height_none z f e = rw ((least_bits z f).0 e)
 
--- the least word, and -1: as the code compares them, by their bits
-module _ (z : ℤ) (f : SFits w64 z) where
-  bits_are : (n : ℕ) → of_z w64 z ≡ n → z ≡ to_z w64 n
-  bits_are n e = sym (to_z-of_z w64 z f) ∙ ap (to_z w64) e
+pub height-some : (z : ℤ) → SFits w64 z → (of_z w64 z ≡ 9_223_372_036_854_775_808 → ⊥) → Some (signed_of z) ≡ height_of z
+unfolding height_of
+height-some z f e = rw ((least_bits z f).1 e)
 
-  pub height_none : of_z w64 z ≡ 9_223_372_036_854_775_808 → None ≡ height_of z
-  unfolding height_of is_least ◌=?◌
-  height_none e = ap height_of (sym (bits_are _ e))
+-- -1, by its bits
+pub sequence_none : (z : ℤ) → SFits w64 z → of_z w64 z ≡ 18_446_744_073_709_551_615 → None ≡ sequence_of z
+unfolding sequence_of
+sequence_none (pos n) f e = absurd (omega (arith, f.sfits, e))
+sequence_none (negsuc n) f e = rw (of≡ {m = suc n} {n = 1} (omega (arith, f.sfits, e)))
 
-  pub sequence_none : of_z w64 z ≡ 18_446_744_073_709_551_615 → None ≡ sequence_of z
-  unfolding sequence_of ◌=?◌
-  sequence_none e = ap sequence_of (sym (bits_are _ e))
-
-pub height-some : (z : ℤ) → (of_z w64 z ≡ 9_223_372_036_854_775_808 → ⊥) → {m : ℤ} → m ≡ signed_of z → Some m ≡ height_of z
-unfolding height_of is_least
-height-some (pos n) h e = rw e
-height-some (negsuc n) h e = rw (e, of≢ {m = suc n} {n = 9_223_372_036_854_775_808} (λ q. let k : n ≡ 9_223_372_036_854_775_807 = omega (arith, q) in h (ap (λ k. of_z w64 (negsuc k)) k)))
-
-pub sequence_some : (z : ℤ) → (of_z w64 z ≡ 18_446_744_073_709_551_615 → ⊥) → {n : ℕ} → n ≡ number_of z → Some n ≡ sequence_of z
+pub sequence_some : (z : ℤ) → SFits w64 z → (of_z w64 z ≡ 18_446_744_073_709_551_615 → ⊥) → Some (number_of z) ≡ sequence_of z
 unfolding sequence_of held_or
-sequence_some (pos n) h e = rw e
-sequence_some (negsuc n) h e = rw (e, of≢ {m = suc n} {n = 1} (λ q. let k : n ≡ 0 = omega (arith, q) in h (ap (λ k. of_z w64 (negsuc k)) k)))
-
-past : (k : ℕ) (rs : List Record) (d : Record) → length rs ≤ k → get_or rs k d ≡ d
-past k [] d h = refl
-past zero (r ∷ rs) d h = absurd (omega arith)
-past (suc k) (r ∷ rs) d h = past k rs d (omega arith)
+sequence_some (pos n) f e = refl
+sequence_some (negsuc n) f e = rw (of≢ {m = suc n} {n = 1} (λ y. e (omega (arith, f.sfits, y))))
 
 -- ---- short codes
 module _ (ws : List ℤ) (i a b : ℕ) (p : a ≡ character_at ws i) (q : b ≡ character_at ws (i + 1)) where
@@ -190,76 +181,70 @@ pub local-given : (ws : List ℤ) (a f b d : ℕ) (z : ℤ) (g h : ℕ) (r : Loc
 unfolding local_given
 local-given ws a f b d z g h r h0 h1 h2 h3 h4 h5 h6 e = e ∙ rw (h0, h1, h2, h3, h4, h5, h6)
 
-pub correlation-given : (z y : ℤ) → SFits w32 y → y ≡ signed_of z → to_z w64 (of_z w64 (to_z w32 (of_z w32 y))) ≡ signed_of z
-correlation-given z y f e = widened y f ∙ e
-
 -- ---- any record, by its kind
 module _ (k : ℕ) (ws : List ℤ) where
   kind_is : (j : ℕ) → k ≡ j → (r : Record) → r ≡ record_given j ws → r ≡ record_given k ws
   kind_is j e r q = q ∙ ap (λ i. record_given i ws) (sym e)
 
-  pub given-title : 1 ≤ k → k < 2 → (r : Title) → r ≡ record {} → R.Title r ≡ record_given k ws
+  pub given-title : k ≡ 1 → (r : Title) → r ≡ record {} → R.Title r ≡ record_given k ws
   unfolding record_given records_given
-  given-title l h r q = kind_is 1 (omega arith) (R.Title r) (rw q)
+  given-title h r q = kind_is 1 h (R.Title r) (rw q)
 
-  pub given_continuation : 2 ≤ k → k < 3 → (r : Continuation) → r ≡ record {} → R.Continuation r ≡ record_given k ws
+  pub given_continuation : k ≡ 2 → (r : Continuation) → r ≡ record {} → R.Continuation r ≡ record_given k ws
   unfolding record_given records_given
-  given_continuation l h r q = kind_is 2 (omega arith) (R.Continuation r) (rw q)
+  given_continuation h r q = kind_is 2 h (R.Continuation r) (rw q)
 
-  pub given-project : 3 ≤ k → k < 4 → (r : Project) → r ≡ project_given ws → R.Project r ≡ record_given k ws
+  pub given-project : k ≡ 3 → (r : Project) → r ≡ project_given ws → R.Project r ≡ record_given k ws
   unfolding record_given records_given
-  given-project l h r q = kind_is 3 (omega arith) (R.Project r) (rw q)
+  given-project h r q = kind_is 3 h (R.Project r) (rw q)
 
-  pub given-occupation : 4 ≤ k → k < 5 → (r : Occupation) → r ≡ occupation_given ws → R.Occupation r ≡ record_given k ws
+  pub given-occupation : k ≡ 4 → (r : Occupation) → r ≡ occupation_given ws → R.Occupation r ≡ record_given k ws
   unfolding record_given records_given
-  given-occupation l h r q = kind_is 4 (omega arith) (R.Occupation r) (rw q)
+  given-occupation h r q = kind_is 4 h (R.Occupation r) (rw q)
 
-  pub given-comment : 5 ≤ k → k < 6 → (r : Comment) → r ≡ record {} → R.Comment r ≡ record_given k ws
+  pub given-comment : k ≡ 5 → (r : Comment) → r ≡ record {} → R.Comment r ≡ record_given k ws
   unfolding record_given records_given
-  given-comment l h r q = kind_is 5 (omega arith) (R.Comment r) (rw q)
+  given-comment h r q = kind_is 5 h (R.Comment r) (rw q)
 
-  pub given-measurement : 6 ≤ k → k < 7 → (r : Measurement) → r ≡ measurement_given ws → R.Measurement r ≡ record_given k ws
+  pub given-measurement : k ≡ 6 → (r : Measurement) → r ≡ measurement_given ws → R.Measurement r ≡ record_given k ws
   unfolding record_given records_given
-  given-measurement l h r q = kind_is 6 (omega arith) (R.Measurement r) (rw q)
+  given-measurement h r q = kind_is 6 h (R.Measurement r) (rw q)
 
-  pub given-point : 9 ≤ k → k < 10 → (r : Point) → r ≡ point_given ws → R.Point r ≡ record_given k ws
+  pub given-point : k ≡ 9 → (r : Point) → r ≡ point_given ws → R.Point r ≡ record_given k ws
   unfolding record_given records_given
-  given-point l h r q = kind_is 9 (omega arith) (R.Point r) (rw q)
+  given-point h r q = kind_is 9 h (R.Point r) (rw q)
 
-  pub given-heights : 10 ≤ k → k < 11 → (r : Heights) → r ≡ heights_given ws → R.Heights r ≡ record_given k ws
+  pub given-heights : k ≡ 10 → (r : Heights) → r ≡ heights_given ws → R.Heights r ≡ record_given k ws
   unfolding record_given records_given
-  given-heights l h r q = kind_is 10 (omega arith) (R.Heights r) (rw q)
+  given-heights h r q = kind_is 10 h (R.Heights r) (rw q)
 
-  pub given-network : 11 ≤ k → k < 12 → (r : Network) → r ≡ network_given ws → R.Network r ≡ record_given k ws
+  pub given-network : k ≡ 11 → (r : Network) → r ≡ network_given ws → R.Network r ≡ record_given k ws
   unfolding record_given records_given
-  given-network l h r q = kind_is 11 (omega arith) (R.Network r) (rw q)
+  given-network h r q = kind_is 11 h (R.Network r) (rw q)
 
-  pub given-local : 12 ≤ k → k < 13 → (r : Local) → r ≡ local_given ws → R.Local r ≡ record_given k ws
+  pub given-local : k ≡ 12 → (r : Local) → r ≡ local_given ws → R.Local r ≡ record_given k ws
   unfolding record_given records_given
-  given-local l h r q = kind_is 12 (omega arith) (R.Local r) (rw q)
+  given-local h r q = kind_is 12 h (R.Local r) (rw q)
 
-  pub given-factor : 13 ≤ k → k < 14 → (a b : ℕ) (r : Factor) → a ≡ number_at ws 2 → b ≡ number_at ws 3 → r ≡ record { horizontal = a; vertical = b } → R.Factor r ≡ record_given k ws
+  pub given-factor : k ≡ 13 → (a b : ℕ) (r : Factor) → a ≡ number_at ws 2 → b ≡ number_at ws 3 → r ≡ record { horizontal = a; vertical = b } → R.Factor r ≡ record_given k ws
   unfolding record_given records_given
-  given-factor l h a b r p q e = kind_is 13 (omega arith) (R.Factor r) (rw (e, p, q))
+  given-factor h a b r p q e = kind_is 13 h (R.Factor r) (rw (e, p, q))
 
-  pub given_job : k < 1 → (a b : ℕ) (r : Job) → a ≡ character_at ws 2 → b ≡ character_at ws 3 → r ≡ record { first = a; second = b } → R.Job r ≡ record_given k ws
+  pub given_job : k ≡ 0 → (a b : ℕ) (r : Job) → a ≡ character_at ws 2 → b ≡ character_at ws 3 → r ≡ record { first = a; second = b } → R.Job r ≡ record_given k ws
   unfolding record_given records_given
-  given_job h a b r p q e = kind_is 0 (omega arith) (R.Job r) (rw (e, p, q))
+  given_job h a b r p q e = kind_is 0 h (R.Job r) (rw (e, p, q))
 
-  pub given-instrument : 7 ≤ k → k < 8 → (a b : ℕ) (r : Instrument) → a ≡ number_at ws 2 → b ≡ number_at ws 3 → r ≡ record { instrument = a; equipment = b } → R.Instrument r ≡ record_given k ws
+  pub given-instrument : k ≡ 7 → (a b : ℕ) (r : Instrument) → a ≡ number_at ws 2 → b ≡ number_at ws 3 → r ≡ record { instrument = a; equipment = b } → R.Instrument r ≡ record_given k ws
   unfolding record_given records_given
-  given-instrument l h a b r p q e = kind_is 7 (omega arith) (R.Instrument r) (rw (e, p, q))
+  given-instrument h a b r p q e = kind_is 7 h (R.Instrument r) (rw (e, p, q))
 
-  pub given-antenna : 8 ≤ k → k < 9 → (a : ℕ) (t : Four) (r : Antenna) → a ≡ number_at ws 2 → t ≡ four_at ws 3 → r ≡ record { antenna = a; radome = t } → R.Antenna r ≡ record_given k ws
+  pub given-antenna : k ≡ 8 → (a : ℕ) (t : Four) (r : Antenna) → a ≡ number_at ws 2 → t ≡ four_at ws 3 → r ≡ record { antenna = a; radome = t } → R.Antenna r ≡ record_given k ws
   unfolding record_given records_given
-  given-antenna l h a t r p q e = kind_is 8 (omega arith) (R.Antenna r) (rw (e, p, q))
+  given-antenna h a t r p q e = kind_is 8 h (R.Antenna r) (rw (e, p, q))
 
   pub given_none : 14 ≤ k → (r : Job) → r ≡ record { first = 0; second = 0 } → R.Job r ≡ record_given k ws
   unfolding record_given records_given
-  given_none h r e = ap R.Job e ∙ sym (past k (records_given ws) (R.Job record { first = 0; second = 0 }) h)
-
-pub given_kind : (ws : List ℤ) (k : ℕ) (r : Record) → k ≡ number_at ws 0 → r ≡ record_given k ws → r ≡ given ws
-given_kind ws k r e q = q ∙ ap (λ i. record_given i ws) e
+  given_none h r e = ap R.Job e ∙ sym (get_or_past (records_given ws) k (R.Job record { first = 0; second = 0 }) h)
 
 -- ---- the answer
 pub noted_small : (w : Result (Unit {0}) Fault) (f : Fault) → Noted w → w ≡ Err f → Small f

@@ -1,11 +1,10 @@
 -- Values as words: each put after the other, a record's words are laid over what was there.
 use mathlib.Core.Path.{◌≡◌, refl, sym, ◌∙◌, ap}
 use mathlib.Core.Bool.{true}
-use mathlib.Core.List.{List, [], ◌∷◌, ◌++◌, append-nil}
-use Prim.Native.Nat.{ℕ, zero, suc, ◌+◌, ◌≤◌, ◌<◌, ◌^◌}
+use mathlib.Core.List.{List, [], ◌∷◌, ◌++◌}
+use Prim.Native.Nat.{ℕ, ◌+◌, ◌≤◌, ◌<◌, ◌^◌}
 use native.Mathlib.Omega.{arith}
-use native.Mathlib.Numerals.{add-one}
-use lib.ListN.{length, set, replicate, drop, drop_of_length-le}
+use lib.ListN.{length, set, replicate, drop}
 use lib.Seq.{set_out}
 use lib.IntN.{ℤ, pos, negsuc}
 use mir.Syntax.{w32, w64}
@@ -271,17 +270,3 @@ told_held x s r t e = t.held s r e
 
 pub read_answer : (old : List ℤ) → 32 ≤ length old → (v w : Result (Option ℕ × Record) Fault) → v ≡ w → (u : List ℤ) → u ≡ read_words v → u ++ drop 32 old ≡ answered 32 (read_words w) old
 read_answer old h v w e u q = long_answer 32 old h u (read_words w) (q ∙ ap read_words e)
-
--- ---- clearing
-fill_more : (i : ℕ) (w : List ℤ) → i < length w → set (replicate i (pos 0) ++ drop i w) i (pos 0) ≡ replicate (suc i) (pos 0) ++ drop (suc i) w
-fill_more i [] h = absurd (omega arith)
-fill_more zero (x ∷ w) h = refl
-fill_more (suc i) (x ∷ w) h = ap (λ (r : List ℤ). pos 0 ∷ r) (fill_more i w (omega arith))
-
-pub clear_more : (w₀ w : List ℤ) (i : ℕ) → length w₀ ≡ 32 → w ≡ replicate i (pos 0) ++ drop i w₀ → i < 32 → set w i (pos 0) ≡ replicate (i + 1) (pos 0) ++ drop (i + 1) w₀
-clear_more w₀ w i n e h = rw (e, add-one i) (fill_more i w₀ (omega arith))
-
-pub clear_done : (w₀ w : List ℤ) (i : ℕ) → length w₀ ≡ 32 → w ≡ replicate i (pos 0) ++ drop i w₀ → i ≤ 32 → 32 ≤ i → w ≡ replicate 32 (pos 0)
-clear_done w₀ w i n e h k =
-    let q : i ≡ 32 = omega arith in
-    (rw (q, drop_of_length-le w₀ {i = 32} (omega arith), append-nil {A = ℤ} (replicate 32 (pos 0))) at e)

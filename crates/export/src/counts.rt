@@ -12,6 +12,7 @@ pub(crate) fn put_fault(out: &mut [u32], f: Fault)
     ensures { out.new ≡ fault_words f }
 {
     out[0] = f.number;
+    // Kept `as`: a fault that is Small fits, which a check at run time would only say again.
     out[1] = f.record as u32;
     out[2] = f.column as u32;
 }
@@ -20,11 +21,7 @@ fn put_counts(out: &mut [u32], counts: &[u32; 14])
     requires { (length out.old ≡ 14) × (length counts.now ≡ 14) }
     ensures { out.new ≡ counts.now }
 {
-    let mut i: usize = 0;
-    while i < 14 {
-        out[i] = counts[i];
-        i += 1;
-    }
+    out.copy_from_slice(counts);
 }
 
 pub(crate) fn put_checked(out: &mut [u32], v: Checked)

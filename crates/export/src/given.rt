@@ -1,6 +1,6 @@
 // A record and a sequence number out of words. What the type of a field cannot hold, and a word that is lacking, is taken for a
 // value that no field holds, so that write refuses it at the field's own column and after any fault further left.
-ghost use Rattle.std.specs.Prelude.{◌≡◌, ◌<◌};
+ghost use Rattle.std.specs.Prelude.{◌≡◌, ◌<◌, ◌+◌};
 ghost use Rattle.answers.specs.Given.{word_at, digit_of, signed_of, height_of, character_at, number_at, two_at, three_at, four_at, media_at, project_given, occupation_given, measurement_given, point_given, heights_given, network_given, local_given, record_given, given, sequence_given};
 
 use columns::{Four, Media};
@@ -31,17 +31,16 @@ fn character_at(values: &[i64], i: usize) -> u8
 fn digit_at(values: &[i64], i: usize) -> u8
     ensures { result ≡ digit_of (word_at values.now i) }
 {
-    let digit = u8::try_from(word_at(values, i)).unwrap_or(10);
-    if digit <= 9 { digit } else { 10 }
+    u8::try_from(word_at(values, i)).unwrap_or(10).min(10)
 }
 
 // A height in millimetres.
 fn signed_at(values: &[i64], i: usize) -> i32
     ensures { result ≡ signed_of (word_at values.now i) }
 {
-    let z = word_at(values, i);
-    if z.unsigned_abs() <= 99_999_999 {
-        z as i32
+    let word = word_at(values, i);
+    if word.unsigned_abs() <= 99_999_999 {
+        word as i32
     } else {
         100_000_000
     }
@@ -114,12 +113,17 @@ fn media_at(values: &[i64], i: usize) -> Media
     requires { i < 90 }
     ensures { result ≡ media_at values.now i }
 {
+    let maker = character_at(values, i);
+    let day = number_at(values, i + 1);
+    let year = digit_at(values, i + 2);
+    let session = character_at(values, i + 3);
+    let mark = four_at(values, i + 4);
     Media {
-        maker: character_at(values, i),
-        day: number_at(values, i + 1),
-        year: digit_at(values, i + 2),
-        session: character_at(values, i + 3),
-        mark: four_at(values, i + 4),
+        maker,
+        day,
+        year,
+        session,
+        mark,
     }
 }
 
@@ -214,67 +218,25 @@ fn give_local(values: &[i64]) -> Local
     )
 }
 
-// The first seven kinds.
-fn give_low(values: &[i64], kind: u32) -> Record
-    requires { kind < 7 }
-    ensures { result ≡ record_given kind values.now }
-{
-    if kind < 1 {
-        return Record::Job(Job::new(character_at(values, 2), character_at(values, 3)));
-    }
-    if kind < 2 {
-        return Record::Title(Title::new());
-    }
-    if kind < 3 {
-        return Record::Continuation(Continuation::new());
-    }
-    if kind < 4 {
-        return Record::Project(give_project(values));
-    }
-    if kind < 5 {
-        return Record::Occupation(give_occupation(values));
-    }
-    if kind < 6 {
-        return Record::Comment(Comment::new());
-    }
-    Record::Measurement(give_measurement(values))
-}
-
-// The others, and a job code that is none where there is no such kind.
-fn give_high(values: &[i64], kind: u32) -> Record
-    requires { 6 < kind }
-    ensures { result ≡ record_given kind values.now }
-{
-    if kind < 8 {
-        return Record::Instrument(Instrument::new(number_at(values, 2), number_at(values, 3)));
-    }
-    if kind < 9 {
-        return Record::Antenna(Antenna::new(number_at(values, 2), four_at(values, 3)));
-    }
-    if kind < 10 {
-        return Record::Point(give_point(values));
-    }
-    if kind < 11 {
-        return Record::Heights(give_heights(values));
-    }
-    if kind < 12 {
-        return Record::Network(give_network(values));
-    }
-    if kind < 13 {
-        return Record::Local(give_local(values));
-    }
-    if kind < 14 {
-        return Record::Factor(Factor::new(number_at(values, 2), number_at(values, 3)));
-    }
-    Record::Job(Job::new(0, 0))
-}
-
+// Word 0 is the kind, by its number of include/shelf.h; where there is no such kind, a job code that is none.
 pub(crate) fn give_record(values: &[i64]) -> Record
     ensures { result ≡ given values.now }
 {
-    let kind = number_at(values, 0);
-    if kind < 7 {
-        return give_low(values, kind);
+    match number_at(values, 0) {
+        0 => Record::Job(Job::new(character_at(values, 2), character_at(values, 3))),
+        1 => Record::Title(Title::new()),
+        2 => Record::Continuation(Continuation::new()),
+        3 => Record::Project(give_project(values)),
+        4 => Record::Occupation(give_occupation(values)),
+        5 => Record::Comment(Comment::new()),
+        6 => Record::Measurement(give_measurement(values)),
+        7 => Record::Instrument(Instrument::new(number_at(values, 2), number_at(values, 3))),
+        8 => Record::Antenna(Antenna::new(number_at(values, 2), four_at(values, 3))),
+        9 => Record::Point(give_point(values)),
+        10 => Record::Heights(give_heights(values)),
+        11 => Record::Network(give_network(values)),
+        12 => Record::Local(give_local(values)),
+        13 => Record::Factor(Factor::new(number_at(values, 2), number_at(values, 3))),
+        _ => Record::Job(Job::new(0, 0)),
     }
-    give_high(values, kind)
 }

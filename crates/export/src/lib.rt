@@ -93,6 +93,7 @@ pub extern "C" fn shelf_field(file: &[u8], record: u32, column: u32, answer: &mu
     if answer.len() < 2 {
         return;
     }
+    // Kept `as`: there is no `From` between usize and the others.
     let r = record as usize;
     let c = column as usize;
     let w = field(file, r, c).len();

@@ -158,11 +158,11 @@ fn put_record(out: &mut [i64], what: Record)
 {
     match what {
         Record::Job(r) => put_job(out, r),
-        Record::Title(r) => {}
-        Record::Continuation(r) => {}
+        Record::Title(_) => {}
+        Record::Continuation(_) => {}
         Record::Project(r) => put_project(out, r),
         Record::Occupation(r) => put_occupation(out, r),
-        Record::Comment(r) => {}
+        Record::Comment(_) => {}
         Record::Measurement(r) => put_measurement(out, r),
         Record::Instrument(r) => put_instrument(out, r),
         Record::Antenna(r) => put_antenna(out, r),
@@ -174,24 +174,25 @@ fn put_record(out: &mut [i64], what: Record)
     }
 }
 
+// Kept a number for each kind: include/shelf.h gives the kinds by these.
 fn number_kind(what: Record) -> u32
     ensures { result ≡ kind_number what }
 {
     match what {
-        Record::Job(r) => 0,
-        Record::Title(r) => 1,
-        Record::Continuation(r) => 2,
-        Record::Project(r) => 3,
-        Record::Occupation(r) => 4,
-        Record::Comment(r) => 5,
-        Record::Measurement(r) => 6,
-        Record::Instrument(r) => 7,
-        Record::Antenna(r) => 8,
-        Record::Point(r) => 9,
-        Record::Heights(r) => 10,
-        Record::Network(r) => 11,
-        Record::Local(r) => 12,
-        Record::Factor(r) => 13,
+        Record::Job(_) => 0,
+        Record::Title(_) => 1,
+        Record::Continuation(_) => 2,
+        Record::Project(_) => 3,
+        Record::Occupation(_) => 4,
+        Record::Comment(_) => 5,
+        Record::Measurement(_) => 6,
+        Record::Instrument(_) => 7,
+        Record::Antenna(_) => 8,
+        Record::Point(_) => 9,
+        Record::Heights(_) => 10,
+        Record::Network(_) => 11,
+        Record::Local(_) => 12,
+        Record::Factor(_) => 13,
     }
 }
 

@@ -9,18 +9,14 @@ pub(crate) fn clear(out: &mut [i64])
     requires { length out.old ≡ 32 }
     ensures { out.new ≡ replicate 32 (pos 0) }
 {
-    let mut i: usize = 0;
-    while i < 32 {
-        out[i] = 0;
-        i += 1;
-    }
+    out.fill(0);
 }
 
 pub(crate) fn put_number(out: &mut [i64], at: usize, n: u32)
     ensures { out.new ≡ set out.old at (pos n) }
 {
     if at < out.len() {
-        out[at] = n as i64;
+        out[at] = i64::from(n);
     }
 }
 
@@ -35,7 +31,7 @@ pub(crate) fn put_signed(out: &mut [i64], at: usize, z: i64)
 pub(crate) fn put_character(out: &mut [i64], at: usize, b: u8)
     ensures { out.new ≡ set out.old at (pos b) }
 {
-    put_number(out, at, b as u32);
+    put_number(out, at, u32::from(b));
 }
 
 // Missing is the least word, and not 0.
@@ -44,7 +40,7 @@ pub(crate) fn height_word(h: Option<i32>) -> i64
 {
     match h {
         None => i64::MIN,
-        Some(z) => z as i64,
+        Some(z) => i64::from(z),
     }
 }
 

@@ -16,6 +16,7 @@ pub fn read_full<R: Read>(reader: &mut R, space: &mut [u8]) -> io::Result<usize>
     ensures bytes { IfOk result (λ n. Consumes (R.remaining reader.old) (R.remaining reader.new) (take n space.new)) }
     ensures whole { IfOk result (λ n. n < length space.new → IsAtEnd (R.remaining reader.new)) }
 {
+    // Kept a loop: of std's methods read_to_end needs a heap, and read_exact fails where the input ends before the space.
     let mut done: usize = 0;
     while done < space.len() {
         let n = reader.read(&mut space[done..])?;

@@ -34,6 +34,7 @@ fn list_checked(out: &mut [u8], blocks: usize, v: Checked) -> usize
 
 // The sheet from the output's first byte on, and its length. The room is looked at first and is the same for every input, so that
 // an output which is too short leaves the table as it was too; the answer is then 0, which no sheet has for its length.
+// Kept 0 for no sheet: the promise `list_answer` says so.
 pub fn list(input: &[u8], table: &mut [u32], out: &mut [u8]) -> usize
     ensures { Promised input.now table.old out.old result table.new out.new }
 {

@@ -1,4 +1,5 @@
 // Words laid one after another into a lent output. Each function answers where its text ends, which is where the next begins.
+// Kept the output and the place apart: a struct that held both would have each contract speak of its two fields, before and after, and of the output's length besides.
 ghost use Rattle.std.specs.Prelude.{◌++◌, ◌∷◌, [], ◌+◌, ◌≤◌, length};
 ghost use Rattle.rules.specs.Digits.{numeral};
 ghost use Rattle.listing.specs.Laying.{Laid, Zeros};

@@ -30,6 +30,7 @@ pub(crate) fn lay_field(out: &mut Text, file: &[u8], spot: Spot) -> io::Result<(
 }
 
 // Where the texts of more than four columns of a record start. No example writes a *12*, a *70* or a *72*. Every other kind has one text from column 11 on, or none, and then write takes no notice.
+// Kept beside that of records_tried, which has to know all kinds.
 fn texts_of(what: Record) -> [Option<usize>; 2] {
     match what {
         Record::Point(_) => [Some(Point::NAME), None],

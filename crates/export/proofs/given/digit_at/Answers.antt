@@ -1,13 +1,12 @@
--- A digit is a byte that is at most 9. Assumes nothing.
-use Rattle.std.proofs.Common.{◌≡◌, refl, sym, ap, ◌∙◌}
+use Rattle.std.proofs.Common.{ap, ◌∙◌}
+use Prim.Native.Nat.{min}
+use mir.Facts.{to_z-of_z}
 use mir.Syntax.{w64}
-use mir.ValLaws.{to_z-of_z}
-use Rattle.answers.specs.Given.{word_at, held_or}
-use Rattle.export.proofs.GivenLaws.{held_try, digit_held, digit_other}
+use Rattle.answers.specs.Given.{digit_of}
+use Rattle.export.proofs.GivenLaws.{digit_tried}
 use Rattle.export.proofs.given.digit_at.Goals as goal
 
-pub returns-then-digit-le9 : goal.returns-then-digit-le9
-returns-then-digit-le9 c = digit_held _ (c.unwrap_or-digit.ensures ∙ held_try 8 255 10 _ _ refl c.try_from.ensures ∙ ap (held_or 255 10) (to_z-of_z w64 _ (record { sfits = c.word_at.type_inv }) ∙ c.word_at.ensures)) c.if-digit-le9.true
-
-pub returns-else-digit-le9 : goal.returns-else-digit-le9
-returns-else-digit-le9 c = digit_other _ (c.unwrap_or-digit.ensures ∙ held_try 8 255 10 _ _ refl c.try_from.ensures ∙ ap (held_or 255 10) (to_z-of_z w64 _ (record { sfits = c.word_at.type_inv }) ∙ c.word_at.ensures)) c.if-digit-le9.false
+pub returns : goal.returns
+returns c =
+    let whole = to_z-of_z {w = w64} {z = c.word_at.result} record { sfits = c.word_at.type_inv } in
+    c.min.ensures ∙ ap (λ n. min n 10) c.unwrap_or.ensures ∙ digit_tried c.try_from.result _ c.try_from.ensures ∙ ap digit_of (whole ∙ c.word_at.ensures)

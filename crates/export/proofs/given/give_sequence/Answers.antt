@@ -1,13 +1,12 @@
--- -1, or another word. Assumes nothing.
-use Rattle.std.proofs.Common.{refl, sym, ap, ◌∙◌}
-use mir.Syntax.{w64}
-use mir.Val.{of_z}
+use Rattle.std.proofs.Common.{ap, sym, ◌∙◌}
+use Rattle.answers.specs.Given.{sequence_of, number_of}
 use Rattle.export.proofs.GivenLaws.{sequence_none, sequence_some}
-use Rattle.answers.specs.Given.{sequence_of}
 use Rattle.export.proofs.given.give_sequence.Goals as goal
+use Rattle.std.specs.Prelude.{Some}
 
 pub returns-then-word_at-eq18446744073709551615 : goal.returns-then-word_at-eq18446744073709551615
-returns-then-word_at-eq18446744073709551615 c = sequence_none _ (record { sfits = c.word_at.type_inv }) c.if-word_at-eq18446744073709551615.true ∙ ap sequence_of c.word_at.ensures
+returns-then-word_at-eq18446744073709551615 c = sequence_none c.word_at.result record { sfits = c.word_at.type_inv } c.if-word_at-eq18446744073709551615.true ∙ ap sequence_of c.word_at.ensures
 
 pub returns : goal.returns
-returns c = sequence_some _ (λ e. c.if-word_at-eq18446744073709551615.false (ap (of_z w64) c.word_at.ensures ∙ e)) c.number_at.ensures
+returns c =
+    ap Some (c.number_at.ensures ∙ ap number_of (sym c.word_at.ensures)) ∙ sequence_some c.word_at.result record { sfits = c.word_at.type_inv } c.if-word_at-eq18446744073709551615.false ∙ ap sequence_of c.word_at.ensures

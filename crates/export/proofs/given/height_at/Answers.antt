@@ -1,14 +1,15 @@
--- The least word, or another. Assumes nothing.
-use Rattle.std.proofs.Common.{refl, sym, ap, ◌∙◌}
-use mir.Syntax.{w32, w64}
-use mir.Val.{of_z}
-use mir.ValLaws.{to_z-of_z}
+use Rattle.std.proofs.Common.{ap, sym, ◌∙◌}
+use mir.Facts.{to_z-of_z}
+use mir.Syntax.{w32}
+use Rattle.answers.specs.Given.{height_of, signed_of}
 use Rattle.export.proofs.GivenLaws.{height_none, height-some}
-use Rattle.answers.specs.Given.{height_of}
 use Rattle.export.proofs.given.height_at.Goals as goal
+use Rattle.std.specs.Prelude.{Some}
 
 pub returns-then-word_at : goal.returns-then-word_at
-returns-then-word_at c = height_none _ (record { sfits = c.word_at.type_inv }) c.if-word_at.true ∙ ap height_of c.word_at.ensures
+returns-then-word_at c = height_none c.word_at.result record { sfits = c.word_at.type_inv } c.if-word_at.true ∙ ap height_of c.word_at.ensures
 
 pub returns : goal.returns
-returns c = height-some _ (λ e. c.if-word_at.false (ap (of_z w64) c.word_at.ensures ∙ e)) (to_z-of_z w32 _ (record { sfits = c.signed_at.type_inv }) ∙ c.signed_at.ensures)
+returns c =
+    let whole = to_z-of_z {w = w32} {z = c.signed_at.result} record { sfits = c.signed_at.type_inv } in
+    ap Some (whole ∙ c.signed_at.ensures ∙ ap signed_of (sym c.word_at.ensures)) ∙ height-some c.word_at.result record { sfits = c.word_at.type_inv } c.if-word_at.false ∙ ap height_of c.word_at.ensures

@@ -1,19 +1,16 @@
--- By how far the word is from zero. Assumes nothing.
-use Rattle.std.proofs.Common.{refl, sym, ap, ◌∙◌}
-use mir.Syntax.{w32, w64}
-use mir.ValLaws.{to_z-of_z}
-use Rattle.export.proofs.GivenLaws.{millimetres_narrow, millimetres_fit, millimetres_large}
+use Rattle.std.proofs.Common.{ap, ◌∙◌, arith}
+use mir.Facts.{to_z-of_z}
+use mir.Syntax.{w64}
+use Rattle.answers.specs.Given.{signed_of}
+use Rattle.export.proofs.GivenLaws.{near_0, far_from_0}
 use Rattle.export.proofs.given.signed_at.Goals as goal
-
-pub overflow_cast-result : goal.overflow_cast-result
-overflow_cast-result c = millimetres_narrow c.unsigned_abs.ensures.value _ (to_z-of_z w64 _ (record { sfits = c.word_at-z.type_inv }) ∙ c.word_at-z.ensures) c.if-unsigned_abs-le99999999.true
 
 pub returns-then-unsigned_abs-le99999999 : goal.returns-then-unsigned_abs-le99999999
 returns-then-unsigned_abs-le99999999 c =
-    let q = to_z-of_z w64 _ (record { sfits = c.word_at-z.type_inv }) ∙ c.word_at-z.ensures in
-    to_z-of_z w32 _ (millimetres_narrow c.unsigned_abs.ensures.value _ q c.if-unsigned_abs-le99999999.true)
-    ∙ millimetres_fit c.unsigned_abs.ensures.value _ q c.if-unsigned_abs-le99999999.true
+    let whole = to_z-of_z {w = w64} {z = c.word_at-word.result} record { sfits = c.word_at-word.type_inv } in
+    near_0 _ (omega (arith, c.unsigned_abs.ensures.value, c.if-unsigned_abs-le99999999.true)) ∙ ap signed_of (whole ∙ c.word_at-word.ensures)
 
 pub returns-else-unsigned_abs-le99999999 : goal.returns-else-unsigned_abs-le99999999
 returns-else-unsigned_abs-le99999999 c =
-    millimetres_large c.unsigned_abs.ensures.value _ (to_z-of_z w64 _ (record { sfits = c.word_at-z.type_inv }) ∙ c.word_at-z.ensures) c.if-unsigned_abs-le99999999.false
+    let whole = to_z-of_z {w = w64} {z = c.word_at-word.result} record { sfits = c.word_at-word.type_inv } in
+    far_from_0 _ (omega (arith, c.unsigned_abs.ensures.value, c.if-unsigned_abs-le99999999.false)) ∙ ap signed_of (whole ∙ c.word_at-word.ensures)
