@@ -53,7 +53,7 @@ unfolding any_of
 any_from b found [] = sym (or-false found)
 any_from b found (c ∷ cs) = any_from b (found || eqb b c) cs ∙ any_turn (c ∷ cs) 0 b found (omega arith)
 
--- what `fold` over the columns bs says of its calls, from `start` to r, where every call leaves the closure f as it was
+-- `fold` over the columns bs gives r: it calls the closure at each of them, and every call leaves the closure f as it was
 module _ {F : Type 0} (g : Mut F (Bool × (Bor ℕ × Unit {0})) Bool) {f : F} {s : Iter ℕ} (r : Bool) (bs : List ℕ) where
   pub all_chain : (p : ℕ → Bool) → (xs : List (Bor ℕ)) × (q : F) × Drains fronts s xs × FoldsTo {P = F × Bool} (λ a x d. Called g a.0 (a.1, (x, tt)) d.1 d.0) (f, true) xs (q, r)
       → iter_rest s ≡ bs → ((a : Bool) (x : Bor ℕ) (d : Bool) (q : F) → Called g f (a, (x, tt)) d q → (q ≡ f) × (d ≡ (a && p x.now))) → r ≡ all p bs

@@ -1,4 +1,5 @@
 // Signed numbers, of any width: blanks, an optional minus, then digits up to the last column, at least one; or all blank. A height is one, and a correlation.
+// Kept: `as` narrows a sum of seven columns, since TryFrom would have an Err that never comes.
 ghost use Rattle.std.specs.Prelude.{◌≡◌, true, false, cond, length, pos, Some, None};
 ghost use Rattle.rules.specs.Tests.{◌&◌, ◌≤?◌};
 ghost use Rattle.rules.specs.Items.{good, fits, value_of, height, minus, num};

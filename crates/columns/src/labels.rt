@@ -1,4 +1,5 @@
-// Media identifiers: a letter, three digits 001-366, a digit, a letter or digit, four printable characters.
+// Media identifiers: a letter, three digits 001-366, a digit, a letter or digit, four printable characters. Kept: `as` narrows
+// what fits (a sum of three columns, a digit), since TryFrom would have an Err that never comes.
 ghost use Rattle.std.specs.Prelude.{◌≡◌, ◌+◌, ◌%◌};
 ghost use Rattle.rules.specs.Tests.{all};
 ghost use Rattle.rules.specs.Characters.{is_printable};

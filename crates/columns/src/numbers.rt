@@ -1,4 +1,5 @@
-// Numbers: blanks, then digits up to the last column; and YYYYMM.
+// Numbers: blanks, then digits up to the last column; and YYYYMM. Kept: `as` narrows what fits (a sum of eight columns, a width), since
+// TryFrom would have an Err that never comes.
 ghost use Rattle.std.specs.Prelude.{◌≡◌, true, false, cond, ◌-◌, ◌≤◌, ◌^◌, suc, length, pos, Some, None};
 ghost use Rattle.rules.specs.Tests.{◌&◌, ◌≤?◌};
 ghost use Rattle.rules.specs.Digits.{val};

@@ -9,7 +9,7 @@ pub fn put_digits(out: &mut [u8], v: u64)
 {
     let mut rest = v;
     for i in (0..out.len()).rev() {
-        out[i] = 48 + ((rest % 10) as u8); // Kept: a TryFrom of one digit has an Err that never comes.
+        out[i] = 48 + ((rest % 10) as u8); // Kept: TryFrom would have an Err that never comes.
         rest /= 10;
     }
 }
