@@ -16,6 +16,7 @@ use Rattle.kinds.specs.declared.Record.{Record}
 use Rattle.kinds.specs.declared.Record.TheVariants as R
 use Rattle.kinds.specs.declared.Fault.{Fault}
 use Rattle.answers.specs.Answers.{fault_words, Small}
+use Rattle.columns.specs.declared.Height.{Height}
 
 -- ---- one word: what its field's type cannot hold is taken for a value that no field holds, so that it is refused at its own column
 -- a word that is lacking counts as the largest one, which no field holds
@@ -47,8 +48,8 @@ unfoldable pub is_least : ℤ → Bool
 is_least (pos n) = false
 is_least (negsuc n) = suc n =? 9_223_372_036_854_775_808
 
-unfoldable pub height_of : ℤ → Option ℤ
-height_of z = cond (is_least z) None (Some (signed_of z))
+unfoldable pub height_of : ℤ → Height
+height_of z = cond (is_least z) Height.Missing (Height.Mm (signed_of z))
 
 -- -1 is a missing sequence number
 unfoldable pub sequence_of : ℤ → Option ℕ

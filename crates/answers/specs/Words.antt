@@ -17,12 +17,13 @@ use Rattle.kinds.specs.declared.Record.{Record}
 use Rattle.kinds.specs.declared.Record.TheVariants as R
 use Rattle.kinds.specs.Values.{kind_number}
 use Rattle.answers.specs.Answers.{Small}
+use Rattle.columns.specs.declared.Height.{Height}
 
 -- ---- one value: a number one word, a short code one for each character
 -- missing is the least word, and not 0
-unfoldable pub height_word : Option ℤ → ℤ
-height_word None = negsuc 9_223_372_036_854_775_807
-height_word (Some z) = z
+unfoldable pub height_word : Height → ℤ
+height_word Height.Missing = negsuc 9_223_372_036_854_775_807
+height_word (Height.Mm z) = z
 
 unfoldable pub sequence_word : Option ℕ → ℤ
 sequence_word None = negsuc 0

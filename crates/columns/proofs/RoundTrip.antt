@@ -20,6 +20,7 @@ use Rattle.columns.specs.declared.Way.{Way}
 use Rattle.columns.specs.declared.Media.{Media}
 use Rattle.std.specs.Prelude.{Option, Some, None, int_lt, unsigned_abs}
 use Rattle.columns.proofs.Signed.{not_below}
+use Rattle.columns.specs.declared.Height.{Height}
 
 -- ---- signs: what is taken apart, as `z < 0` and `unsigned_abs`, is put together again, whatever the number
 abbrev pub split_of : ℤ → Bool × ℕ
@@ -35,13 +36,13 @@ split_back (negsuc n) = refl
 
 -- ---- heights, in w columns
 -- what read_height gives of columns
-abbrev pub height_read : List ℕ → Option ℤ
-height_read bs = cond (length bs ≤? 7) (height_of (value_of (height 0 0 0 true) bs)) None
+abbrev pub height_read : List ℕ → Height
+height_read bs = cond (length bs ≤? 7) (height_of (value_of (height 0 0 0 true) bs)) Height.Missing
 
-pub height_same : (h : Option ℤ) → height_of (height_value h) ≡ h
+pub height_same : (h : Height) → height_of (height_value h) ≡ h
 unfolding height_of height_value
-height_same None = refl
-height_same (Some z) = refl
+height_same Height.Missing = refl
+height_same (Height.Mm z) = refl
 
 -- neither the width nor the range has a say in the value or in its house style
 any-height : (w lo hi : ℕ) (may : Bool) (bs : List ℕ) → value_of (height 0 0 0 true) bs ≡ value_of (height w lo hi may) bs
@@ -56,17 +57,17 @@ width_is : (w lo hi : ℕ) (may : Bool) → width (height w lo hi may) ≡ w
 unfolding width
 width_is w lo hi may = refl
 
-no_column : (lo hi : ℕ) (h : Option ℤ) → fits (height 0 lo hi true) (height_value h) ≡ true → None ≡ h
+no_column : (lo hi : ℕ) (h : Height) → fits (height 0 lo hi true) (height_value h) ≡ true → Height.Missing ≡ h
 unfolding fits on_number height_value ◌&◌ ◌≤?◌
-no_column lo hi None f = refl
-no_column lo hi (Some (pos n)) f = absurd (false≢true f)
-no_column lo hi (Some (negsuc n)) f = absurd (false≢true f)
+no_column lo hi Height.Missing f = refl
+no_column lo hi (Height.Mm (pos n)) f = absurd (false≢true f)
+no_column lo hi (Height.Mm (negsuc n)) f = absurd (false≢true f)
 
-nothing_read : height_read [] ≡ None
+nothing_read : height_read [] ≡ Height.Missing
 unfolding height_of value_of all
 nothing_read = rw (of≤ {m = 0} {n = 7} (omega arith))
 
-pub height_back : (w lo hi : ℕ) (h : Option ℤ) → w ≤ 7 → fits (height w lo hi true) (height_value h) ≡ true → height_read (height_columns w h) ≡ h
+pub height_back : (w lo hi : ℕ) (h : Height) → w ≤ 7 → fits (height w lo hi true) (height_value h) ≡ true → height_read (height_columns w h) ≡ h
 unfolding height_columns
 height_back zero lo hi h l f = nothing_read ∙ no_column lo hi h f
 height_back (suc w) lo hi h l f =
@@ -78,7 +79,7 @@ height_back (suc w) lo hi h l f =
 abbrev pub signed_read : List ℕ → ℤ
 signed_read bs = cond (length bs ≤? 16) (int_of (value_of (height 0 0 0 true) bs)) (pos 0)
 
-pub signed_back : (w lo hi : ℕ) (z : ℤ) → 1 ≤ w → w ≤ 16 → fits (height w lo hi false) (num z) ≡ true → signed_read (height_columns w (Some z)) ≡ z
+pub signed_back : (w lo hi : ℕ) (z : ℤ) → 1 ≤ w → w ≤ 16 → fits (height w lo hi false) (num z) ≡ true → signed_read (height_columns w (Height.Mm z)) ≡ z
 unfolding height_columns height_value
 signed_back zero lo hi z p l f = absurd (omega arith)
 signed_back (suc w) lo hi z p l f =
@@ -87,17 +88,17 @@ signed_back (suc w) lo hi z p l f =
     rw (any_range (suc w) lo hi false (num z), of≤ short, any-height (suc w) lo hi false, st.valued) (unfold int_of in refl)
 
 -- the ends: -999,999, 0 and 9,999,999 in seven columns, and no further
-pub height-low : height_read (height_columns 7 (Some (negsuc 999_998))) ≡ Some (negsuc 999_998)
+pub height-low : height_read (height_columns 7 (Height.Mm (negsuc 999_998))) ≡ Height.Mm (negsuc 999_998)
 unfolding fits on_number height_value ◌&◌ ◌≤?◌
-height-low = height_back 7 999_999 9_999_999 (Some (negsuc 999_998)) (omega arith) refl
+height-low = height_back 7 999_999 9_999_999 (Height.Mm (negsuc 999_998)) (omega arith) refl
 
-pub height-zero : height_read (height_columns 7 (Some (pos 0))) ≡ Some (pos 0)
+pub height-zero : height_read (height_columns 7 (Height.Mm (pos 0))) ≡ Height.Mm (pos 0)
 unfolding fits on_number height_value ◌&◌ ◌≤?◌
-height-zero = height_back 7 999_999 9_999_999 (Some (pos 0)) (omega arith) refl
+height-zero = height_back 7 999_999 9_999_999 (Height.Mm (pos 0)) (omega arith) refl
 
-pub height_high : height_read (height_columns 7 (Some (pos 9_999_999))) ≡ Some (pos 9_999_999)
+pub height_high : height_read (height_columns 7 (Height.Mm (pos 9_999_999))) ≡ Height.Mm (pos 9_999_999)
 unfolding fits on_number height_value ◌&◌ ◌≤?◌
-height_high = height_back 7 999_999 9_999_999 (Some (pos 9_999_999)) (omega arith) refl
+height_high = height_back 7 999_999 9_999_999 (Height.Mm (pos 9_999_999)) (omega arith) refl
 
 pub height-ends : (fits (height 7 999_999 9_999_999 true) (num (negsuc 999_999)) ≡ false) × (fits (height 7 999_999 9_999_999 true) (num (pos 10_000_000)) ≡ false)
 unfolding fits on_number ◌&◌ ◌≤?◌
@@ -105,9 +106,9 @@ height-ends = (refl, refl)
 
 -- 02, T-03: -99,999,990, 0 and 99,999,999 in ten columns, and no further
 pub correlation-ends :
-    (signed_read (height_columns 10 (Some (negsuc 99_999_989))) ≡ negsuc 99_999_989)
-    × (signed_read (height_columns 10 (Some (pos 0))) ≡ pos 0)
-    × (signed_read (height_columns 10 (Some (pos 99_999_999))) ≡ pos 99_999_999)
+    (signed_read (height_columns 10 (Height.Mm (negsuc 99_999_989))) ≡ negsuc 99_999_989)
+    × (signed_read (height_columns 10 (Height.Mm (pos 0))) ≡ pos 0)
+    × (signed_read (height_columns 10 (Height.Mm (pos 99_999_999))) ≡ pos 99_999_999)
     × (fits correlation (num (negsuc 99_999_990)) ≡ false) × (fits correlation (num (pos 100_000_000)) ≡ false)
 unfolding fits on_number ◌&◌ ◌≤?◌
 correlation-ends = (
@@ -119,7 +120,7 @@ correlation-ends = (
 )
 
 -- half a metre below zero keeps its sign
-pub half_metre_lem : (height_columns 7 (Some (negsuc 499)) ≡ ascii "-000500") × (height_read (ascii "-000500") ≡ Some (negsuc 499))
+pub half_metre_lem : (height_columns 7 (Height.Mm (negsuc 499)) ≡ ascii "-000500") × (height_read (ascii "-000500") ≡ Height.Mm (negsuc 499))
 unfolding height_columns height_value render on_number put ascii height_of value_of all is_blank items.minus signed Rattle.rules.specs.Digits.val ◌&◌ ◌≤?◌ ◌=?◌
 half_metre_lem = (refl, refl)
 

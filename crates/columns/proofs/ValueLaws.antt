@@ -18,6 +18,7 @@ use Rattle.columns.specs.Leaves.{between}
 use Rattle.columns.proofs.Loops.{&_is}
 use Rattle.columns.proofs.Signed.{not_below}
 use Rattle.std.specs.Prelude.{Option, Some, None}
+use Rattle.columns.specs.declared.Height.{Height}
 
 -- ---- reading
 module _ (bs : List ℕ) {r : Bool} (e : r ≡ all is_blank bs) where
@@ -29,11 +30,11 @@ module _ (bs : List ℕ) {r : Bool} (e : r ≡ all is_blank bs) where
   unfolding count_of value_of
   count_some h k = rw (k, sym e ∙ h)
 
-  pub height-blank : r ≡ true → None ≡ height_of (value_of (height 0 0 0 true) bs)
+  pub height-blank : r ≡ true → Height.Missing ≡ height_of (value_of (height 0 0 0 true) bs)
   unfolding height_of value_of
   height-blank h = rw (sym e ∙ h)
 
-  pub height-some : {m : Bool} {v : ℕ} {z : ℤ} → r ≡ false → m ≡ minus bs → v ≡ val 0 bs → z ≡ signed m v → Some z ≡ height_of (value_of (height 0 0 0 true) bs)
+  pub height-some : {m : Bool} {v : ℕ} {z : ℤ} → r ≡ false → m ≡ minus bs → v ≡ val 0 bs → z ≡ signed m v → Height.Mm z ≡ height_of (value_of (height 0 0 0 true) bs)
   unfolding height_of value_of
   height-some h d k q = rw (q, d, k, sym e ∙ h)
 
@@ -107,11 +108,11 @@ may_not w lo hi may (pos n) = refl
 may_not w lo hi may (negsuc n) = refl
 
 module _ (w lo hi : ℕ) where
-  module _ (may : Bool) {x : Option ℤ} where
-    pub height-missing : x ≡ None → may ≡ fits (height w lo hi may) (height_value x)
+  module _ (may : Bool) {x : Height} where
+    pub height-missing : x ≡ Height.Missing → may ≡ fits (height w lo hi may) (height_value x)
     unfolding fits on_number height_value
     height-missing e = rw e
 
-    pub height_is : {z y : ℤ} {r : Bool} → x ≡ Some z → y ≡ z → r ≡ fits (height w lo hi false) (num y) → r ≡ fits (height w lo hi may) (height_value x)
+    pub height_is : {z y : ℤ} {r : Bool} → x ≡ Height.Mm z → y ≡ z → r ≡ fits (height w lo hi false) (num y) → r ≡ fits (height w lo hi may) (height_value x)
     unfolding height_value
     height_is {z} e q k = rw (e) (k ∙ rw q (may_not w lo hi may z))

@@ -9,6 +9,7 @@ use Rattle.columns.specs.declared.Way.{Way}
 use Rattle.columns.specs.declared.Set.{Set}
 use Rattle.columns.specs.declared.sets.Ranges.{Ranges}
 use Rattle.columns.specs.declared.angles.Limits.{Limits}
+use Rattle.columns.specs.declared.Height.{Height}
 
 -- what a writer leaves in columns that held `old`: the value in house style, if it fits and so do they; else what they held
 unfoldable pub written : Item → Value → List ℕ → List ℕ
@@ -54,7 +55,7 @@ unfoldable pub between : (lo hi : ℕ) → Bool → ℕ → Bool
 between lo hi negative n = n ≤? cond negative lo hi
 
 -- a height in no columns is nothing, and else in house style
-unfoldable pub height_columns : ℕ → Option ℤ → List ℕ
+unfoldable pub height_columns : ℕ → Height → List ℕ
 height_columns zero h = []
 height_columns (suc w) h = render (height (suc w) 0 0 true) (height_value h)
 

@@ -8,6 +8,7 @@ use Rattle.columns.specs.declared.Way.{Way}
 use Rattle.columns.specs.declared.Four.{Four}
 use Rattle.columns.specs.declared.Media.{Media}
 use Rattle.columns.specs.declared.Set.{Set}
+use Rattle.columns.specs.declared.Height.{Height}
 
 unfoldable pub way_of : Way → items.Way
 way_of Way.Latitude = latitude
@@ -26,17 +27,17 @@ set_of Set.YesNo = only 89 or only 78
 set_of Set.YesNoOrSpace = only 89 or only 78 or space
 
 -- ---- heights
-unfoldable pub height_value : Option ℤ → Value
-height_value None = missing
-height_value (Some z) = num z
+unfoldable pub height_value : Height → Value
+height_value Height.Missing = missing
+height_value (Height.Mm z) = num z
 
 -- what is no height gives Missing
-unfoldable pub height_of : Value → Option ℤ
-height_of gap = None
-height_of missing = None
-height_of (num z) = Some z
-height_of (text t) = None
-height_of (label m d y s t) = None
+unfoldable pub height_of : Value → Height
+height_of gap = Height.Missing
+height_of missing = Height.Missing
+height_of (num z) = Height.Mm z
+height_of (text t) = Height.Missing
+height_of (label m d y s t) = Height.Missing
 
 -- ---- numbers
 unfoldable pub count_value : Option ℕ → Value

@@ -1,11 +1,12 @@
 // Signed numbers, of any width: blanks, an optional minus, then digits up to the last column, at least one; or all blank. A height is one, and a correlation.
 // Kept: `as` narrows a sum of seven columns, since TryFrom would have an Err that never comes.
-ghost use Rattle.std.specs.Prelude.{◌≡◌, true, false, cond, length, pos, Some, None};
+ghost use Rattle.std.specs.Prelude.{◌≡◌, true, false, cond, length, pos};
 ghost use Rattle.rules.specs.Tests.{◌&◌, ◌≤?◌};
 ghost use Rattle.rules.specs.Items.{good, fits, value_of, height, minus, num};
 ghost use Rattle.columns.specs.Types.{height_of, height_value, int_of};
 ghost use Rattle.columns.specs.Leaves.{between, height_columns};
 
+use crate::Height;
 use crate::numbers::{has_form, has_room, last_of, sum};
 use crate::sets::all_blank;
 use crate::signs::with_sign;
@@ -47,18 +48,18 @@ pub fn has_minus(part: &[u8]) -> bool
 }
 
 // Any seven columns fit.
-pub fn read_height(part: &[u8]) -> Option<i32>
-    ensures { result ≡ cond (length part.now ≤? 7) (height_of (value_of (height 0 0 0 true) part.now)) None }
+pub fn read_height(part: &[u8]) -> Height
+    ensures { result ≡ cond (length part.now ≤? 7) (height_of (value_of (height 0 0 0 true) part.now)) Height.Missing }
 {
     if 7 < part.len() {
-        return None;
+        return Height::Missing;
     }
     if all_blank(part) {
-        return None; // and not 0
+        return Height::Missing; // and not 0
     }
     let negative = has_minus(part);
     let v = sum(part);
-    Some(with_sign(negative, v) as i32)
+    Height::Mm(with_sign(negative, v) as i32)
 }
 
 // The same where none is missing, of any sixteen columns; blanks give 0.
@@ -84,18 +85,18 @@ pub fn signed_fits(z: i64, width: usize, lo: u32, hi: u32) -> bool
     has_room(size, room) & is_between(z < 0, size, lo, hi)
 }
 
-pub fn height_fits(h: Option<i32>, width: usize, lo: u32, hi: u32, may: bool) -> bool
+pub fn height_fits(h: Height, width: usize, lo: u32, hi: u32, may: bool) -> bool
     ensures { result ≡ fits (height width lo hi may) (height_value h) }
 {
     match h {
-        None => may,
-        Some(z) => signed_fits(i64::from(z), width, lo, hi),
+        Height::Missing => may,
+        Height::Mm(z) => signed_fits(i64::from(z), width, lo, hi),
     }
 }
 
 // A negative number has its minus in the first column.
 pub fn put_signed(out: &mut [u8], z: i64)
-    ensures { out.new ≡ height_columns (length out.old) (Some z) }
+    ensures { out.new ≡ height_columns (length out.old) (Height.Mm z) }
 {
     let size = z.unsigned_abs();
     if 0 <= z {
@@ -108,11 +109,11 @@ pub fn put_signed(out: &mut [u8], z: i64)
     }
 }
 
-pub fn put_height(out: &mut [u8], h: Option<i32>)
+pub fn put_height(out: &mut [u8], h: Height)
     ensures { out.new ≡ height_columns (length out.old) h }
 {
     match h {
-        None => put_blank(out),
-        Some(z) => put_signed(out, i64::from(z)),
+        Height::Missing => put_blank(out),
+        Height::Mm(z) => put_signed(out, i64::from(z)),
     }
 }

@@ -47,10 +47,10 @@ pub fn read_media(part: &[u8]) -> Media
     );
     Media {
         maker: byte_at(part, 0),
-        day: day,
-        year: year,
+        day,
+        year,
         session: byte_at(part, 5),
-        mark: mark,
+        mark,
     }
 }
 

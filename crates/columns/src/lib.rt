@@ -12,6 +12,13 @@ pub mod sets;
 pub mod signs;
 pub mod writers;
 
+// A height in millimetres. Kept: 01, "Each place and its form", names these two cases.
+#[derive(Clone, Copy, PartialEq, Eq)]
+pub enum Height {
+    Missing,
+    Mm(i32),
+}
+
 // Which angle.
 #[derive(Clone, Copy)]
 pub enum Way {

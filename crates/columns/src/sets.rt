@@ -51,11 +51,11 @@ fn new_ranges(low: u8, high: u8, bottom: u8, top: u8, one: u8) -> Ranges
     ensures { result ≡ ranges low high bottom top one }
 {
     Ranges {
-        low: low,
-        high: high,
-        bottom: bottom,
-        top: top,
-        one: one,
+        low,
+        high,
+        bottom,
+        top,
+        one,
     }
 }
 

@@ -54,6 +54,7 @@ use Rattle.columns.proofs.Signed.{widened}
 use Rattle.std.specs.Prelude.{Result, Ok, Err, Option, Some, None}
 use Rattle.columns.specs.Types.{count_value}
 use Rattle.std.specs.Prelude.{Option, Some, None}
+use Rattle.columns.specs.declared.Height.{Height}
 
 -- ---- one word
 pub word_found : (ws : List ℤ) (i : ℕ) (r : Option (Bor ℤ)) → IsItemAt ws i r → unwrap_or (option_copied r) (pos 9_223_372_036_854_775_807) ≡ word_at ws i
@@ -106,11 +107,11 @@ unfolding is_least
 least_bits (pos n) f = (λ e. absurd (omega (arith, f.sfits, e)), λ e. refl)
 least_bits (negsuc n) f = (λ e. of≡ {m = suc n} {n = 9_223_372_036_854_775_808} (omega (arith, f.sfits, e)), λ e. of≢ {m = suc n} {n = 9_223_372_036_854_775_808} (λ y. e (omega (arith, y))))
 
-pub height_none : (z : ℤ) → SFits w64 z → of_z w64 z ≡ 9_223_372_036_854_775_808 → None ≡ height_of z
+pub height_none : (z : ℤ) → SFits w64 z → of_z w64 z ≡ 9_223_372_036_854_775_808 → Height.Missing ≡ height_of z
 unfolding height_of
 height_none z f e = rw ((least_bits z f).0 e)
 
-pub height-some : (z : ℤ) → SFits w64 z → (of_z w64 z ≡ 9_223_372_036_854_775_808 → ⊥) → Some (signed_of z) ≡ height_of z
+pub height-some : (z : ℤ) → SFits w64 z → (of_z w64 z ≡ 9_223_372_036_854_775_808 → ⊥) → Height.Mm (signed_of z) ≡ height_of z
 unfolding height_of
 height-some z f e = rw ((least_bits z f).1 e)
 
@@ -166,7 +167,7 @@ pub point-given : (ws : List ℤ) (a : ℕ) (x : ℤ) (y : ℤ) (u : Two) (r : P
 unfolding point_given
 point-given ws a x y u r h0 h1 h2 h3 e = e ∙ rw (h0, h1, h2, h3)
 
-pub heights-given : (ws : List ℤ) (a : ℕ) (b : Option ℤ) (d : ℕ) (f : Two) (g : ℕ) (i : Two) (j : Option ℤ) (k : ℕ) (l : Option ℤ) (m : ℕ) (n : ℕ) (r : Heights) → a ≡ number_at ws 2 → b ≡ height_of (word_at ws 3) → d ≡ character_at ws 4 → f ≡ two_at ws 5 → g ≡ character_at ws 7 → i ≡ two_at ws 8 → j ≡ height_of (word_at ws 10) → k ≡ character_at ws 11 → l ≡ height_of (word_at ws 12) → m ≡ character_at ws 13 → n ≡ character_at ws 14
+pub heights-given : (ws : List ℤ) (a : ℕ) (b : Height) (d : ℕ) (f : Two) (g : ℕ) (i : Two) (j : Height) (k : ℕ) (l : Height) (m : ℕ) (n : ℕ) (r : Heights) → a ≡ number_at ws 2 → b ≡ height_of (word_at ws 3) → d ≡ character_at ws 4 → f ≡ two_at ws 5 → g ≡ character_at ws 7 → i ≡ two_at ws 8 → j ≡ height_of (word_at ws 10) → k ≡ character_at ws 11 → l ≡ height_of (word_at ws 12) → m ≡ character_at ws 13 → n ≡ character_at ws 14
     → r ≡ record { station = a; orthometric = b; code = d; class = f; indicator = g; datum = i; geoid = j; geoidcode = k; ellipsoid = l; ellipsoidcode = m; ellipsoiddatum = n } → r ≡ heights_given ws
 unfolding heights_given
 heights-given ws a b d f g i j k l m n r h0 h1 h2 h3 h4 h5 h6 h7 h8 h9 h10 e = e ∙ rw (h0, h1, h2, h3, h4, h5, h6, h7, h8, h9, h10)

@@ -39,6 +39,7 @@ use Rattle.kinds.specs.Values.{kind_number}
 use Rattle.answers.specs.Words.{height_word, sequence_word, two_words, three_words, four_words, media_words, project_words, occupation_words, measurement_words, point_words, heights_first, heights_words, network_words, local_words, value_words, padded, read_words, deviations_of, in_range, Told, laid}
 use Rattle.answers.specs.Answers.{Small, answered}
 use Rattle.export.proofs.AnswerLaws.{long_answer}
+use Rattle.columns.specs.declared.Height.{Height}
 
 -- ---- one word
 pub put_past : (w : List ℤ) (at : ℕ) (z : ℤ) → length w ≤ at → w ≡ set w at z
@@ -47,15 +48,15 @@ put_past w at z h = sym (set_out w at z h)
 pub put_word : (w : List ℤ) (at n : ℕ) → n < 2 ^ 32 → set w at (to_z w64 n) ≡ set w at (pos n)
 put_word w at n h = ap (set w at) (to_z_pos w64 n (omega arith))
 
-pub missing-word : (h : Option ℤ) → h ≡ None → negsuc 9_223_372_036_854_775_807 ≡ height_word h
+pub missing-word : (h : Height) → h ≡ Height.Missing → negsuc 9_223_372_036_854_775_807 ≡ height_word h
 unfolding height_word
 missing-word h e = rw e
 
-pub height-word : (h : Option ℤ) (z : ℤ) → SFits w32 z → h ≡ Some z → to_z w64 (of_z w64 (to_z w32 (of_z w32 z))) ≡ height_word h
+pub height-word : (h : Height) (z : ℤ) → SFits w32 z → h ≡ Height.Mm z → to_z w64 (of_z w64 (to_z w32 (of_z w32 z))) ≡ height_word h
 unfolding height_word
 height-word h z f e = rw e (widened z f)
 
-pub height-put : (h : Option ℤ) (z : ℤ) (at : ℕ) (w u : List ℤ) → z ≡ height_word h → to_z w64 (of_z w64 z) ≡ z → u ≡ set w at (to_z w64 (of_z w64 z)) → u ≡ set w at (height_word h)
+pub height-put : (h : Height) (z : ℤ) (at : ℕ) (w u : List ℤ) → z ≡ height_word h → to_z w64 (of_z w64 z) ≡ z → u ≡ set w at (to_z w64 (of_z w64 z)) → u ≡ set w at (height_word h)
 height-put h z at w u e b q = q ∙ rw (b, e)
 
 module _ (s : Option ℕ) (at : ℕ) (w u : List ℤ) where
@@ -118,7 +119,7 @@ module _ (w₀ w₁ w₂ : List ℤ) where
   unfolding laid occupation_words three_words media_words four_words
   occupation-laid r w₃ w₄ w₅ p q s t v = rw (v, t, s, q, p)
 
-  pub measurement-laid : (r : Measurement) (z : ℤ) (w₃ w₄ : List ℤ) → w₁ ≡ set w₀ 5 (pos r.station) → w₂ ≡ set w₁ 6 (pos r.date) → w₃ ≡ set w₂ 7 (pos r.time) → w₄ ≡ set w₃ 8 (height_word (Some z))
+  pub measurement-laid : (r : Measurement) (z : ℤ) (w₃ w₄ : List ℤ) → w₁ ≡ set w₀ 5 (pos r.station) → w₂ ≡ set w₁ 6 (pos r.date) → w₃ ≡ set w₂ 7 (pos r.time) → w₄ ≡ set w₃ 8 (height_word (Height.Mm z))
       → z ≡ r.height → w₄ ≡ laid 5 (measurement_words r) w₀
   unfolding laid measurement_words height_word
   measurement-laid r z w₃ w₄ p q s t e = rw (t, s, q, p, e)

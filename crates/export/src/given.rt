@@ -3,7 +3,7 @@
 ghost use Rattle.std.specs.Prelude.{◌≡◌, ◌<◌, ◌+◌};
 ghost use Rattle.answers.specs.Given.{word_at, digit_of, signed_of, height_of, character_at, number_at, two_at, three_at, four_at, media_at, project_given, occupation_given, measurement_given, point_given, heights_given, network_given, local_given, record_given, given, sequence_given};
 
-use columns::{Four, Media};
+use columns::{Four, Height, Media};
 use kinds::{
     Antenna, Comment, Continuation, Factor, Heights, Instrument, Job, Local, Measurement, Network,
     Occupation, Point, Project, Record, Three, Title, Two,
@@ -61,13 +61,13 @@ fn deviation_at(values: &[i64], i: usize) -> u64
 }
 
 // The least word is a missing height.
-fn height_at(values: &[i64], i: usize) -> Option<i32>
+fn height_at(values: &[i64], i: usize) -> Height
     ensures { result ≡ height_of (word_at values.now i) }
 {
     if word_at(values, i) == i64::MIN {
-        return None;
+        return Height::Missing;
     }
-    Some(signed_at(values, i))
+    Height::Mm(signed_at(values, i))
 }
 
 pub(crate) fn give_sequence(values: &[i64]) -> Option<u32>

@@ -8,6 +8,7 @@ use crate::words::{
     clear, put_character, put_four, put_height, put_media, put_number, put_sequence, put_signed,
     put_three, put_two,
 };
+use columns::Height;
 use kinds::{
     Antenna, Factor, Fault, Heights, Instrument, Job, Local, Measurement, Network, Occupation,
     Point, Project, Record,
@@ -52,7 +53,7 @@ fn put_measurement(out: &mut [i64], r: Measurement)
     put_number(out, 5, r.station);
     put_number(out, 6, r.date);
     put_number(out, 7, r.time);
-    put_height(out, 8, Some(height));
+    put_height(out, 8, Height::Mm(height));
 }
 
 fn put_instrument(out: &mut [i64], r: Instrument)

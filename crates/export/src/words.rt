@@ -2,7 +2,7 @@
 ghost use Rattle.std.specs.Prelude.{◌≡◌, ◌<◌, length, set, replicate, pos};
 ghost use Rattle.answers.specs.Words.{height_word, sequence_word, two_words, three_words, four_words, media_words, laid};
 
-use columns::{Four, Media};
+use columns::{Four, Height, Media};
 use kinds::{Three, Two};
 
 pub(crate) fn clear(out: &mut [i64])
@@ -35,16 +35,16 @@ pub(crate) fn put_character(out: &mut [i64], at: usize, b: u8)
 }
 
 // Missing is the least word, and not 0.
-pub(crate) fn height_word(h: Option<i32>) -> i64
+pub(crate) fn height_word(h: Height) -> i64
     ensures { result ≡ height_word h }
 {
     match h {
-        None => i64::MIN,
-        Some(z) => i64::from(z),
+        Height::Missing => i64::MIN,
+        Height::Mm(z) => i64::from(z),
     }
 }
 
-pub(crate) fn put_height(out: &mut [i64], at: usize, h: Option<i32>)
+pub(crate) fn put_height(out: &mut [i64], at: usize, h: Height)
     ensures { out.new ≡ set out.old at (height_word h) }
 {
     put_signed(out, at, height_word(h));

@@ -1,11 +1,10 @@
 -- Tests in a row: one law for each way through a function. Assumes nothing.
 use mathlib.Core.Path.{◌≡◌, refl, sym}
-use mathlib.Core.Bool.{Bool, true, false, not, ◌&&◌, ◌||◌, false≢true}
+use mathlib.Core.Bool.{Bool, true, false, not, ◌&&◌, ◌||◌}
 use mathlib.Core.List.{List, [], ◌∷◌, ◌++◌}
 use Prim.Native.Nat.{ℕ}
 use lib.Dec.{eqb}
 use lib.ListN.{length}
-use Rattle.std.specs.Prelude.{Option, Some, None, ℤ, is_some}
 use Rattle.rules.specs.Tests.{◌&◌, ◌=?◌, all}
 use Rattle.rules.specs.Characters.{is_blank}
 use Rattle.rules.specs.Items.{Test, word, text, on_text, passes, width, shape, value_of, fits, good}
@@ -14,6 +13,7 @@ use Rattle.rules.proofs.Truth.{of≡}
 use Rattle.columns.specs.Types.{height_value}
 use Rattle.rules.proofs.FieldLaws.{⨾_assoc}
 use Rattle.columns.proofs.Loops.{&_is}
+use Rattle.columns.specs.declared.Height.{Height}
 
 -- what follows a good test alone matters
 pub ⨾_same : (b : Bool) (n c : ℕ) (u v : Verdict) → (b ≡ true → u ≡ v) → (check b n c ⨾ u) ≡ (check b n c ⨾ v)
@@ -46,14 +46,6 @@ unfolding fits on_text ◌=?◌
 word_fits w q t e = rw (e, word_good q t) (sym (&_is (eqb (length t) w) (passes q t)))
 
 -- ---- agreement
--- what the library tells of the code's heights
-pub told_missing : (h : Option ℤ) {m : Bool} → is_some h ≡ not m → m ≡ is_missing (height_value h)
-unfolding is_missing height_value
-told_missing None {m = true} e = refl
-told_missing None {m = false} e = absurd (false≢true e)
-told_missing (Some z) {m = true} e = absurd (false≢true (sym e))
-told_missing (Some z) {m = false} e = refl
-
 pub tie_test : (m : Bool) (t : ℕ) → (m && eqb t 32 || not m && not (eqb t 32)) ≡ same_truth m (is_missing (text (t ∷ [])))
 unfolding same_truth is_missing all is_blank ◌=?◌
 tie_test m t = go m (eqb t 32)

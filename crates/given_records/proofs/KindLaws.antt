@@ -30,13 +30,14 @@ use Rattle.given_records.specs.Accuracies.{judge_accuracy}
 use Rattle.given_records.specs.Judging.{height_entries, judge_orthometric, judge_others}
 use Rattle.given_records.proofs.JudgeLaws.{chain, chain_append, chain_within, chain_two, firsts}
 use Rattle.std.specs.Prelude.{Option}
+use Rattle.columns.specs.declared.Height.{Height}
 
 -- a value of its kind and range
 abbrev pub form : Item → Value → ℕ → Verdict
 form i v c = check (fits i v) 9 c
 
 -- a character that is blank exactly when a height is missing
-abbrev pub tie : Option ℤ → ℕ → ℕ → Verdict
+abbrev pub tie : Height → ℕ → ℕ → Verdict
 tie h t c = check (same_truth (is_missing (height_value h)) (is_missing (text (t ∷ [])))) 10 c
 
 abbrev pub word_of : ℕ → Set → Item

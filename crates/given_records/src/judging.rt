@@ -13,7 +13,7 @@ use columns::heights::{height_fits, signed_fits};
 use columns::labels::media_fits;
 use columns::numbers::{count_fits, month_fits, number_fits};
 use columns::sets::{good_word, good_word_or_blank};
-use columns::{Four, Media, Set, Way};
+use columns::{Four, Height, Media, Set, Way};
 use kinds::{Flaw, Three, Two};
 
 pub(crate) fn judge_test(ok: bool, number: u32, column: usize) -> Result<(), Flaw>
@@ -47,7 +47,7 @@ pub(crate) fn judge_month(n: u32, column: usize) -> Result<(), Flaw>
 
 // From -lo to hi.
 pub(crate) fn judge_height(
-    h: Option<i32>,
+    h: Height,
     w: usize,
     lo: u32,
     hi: u32,
@@ -126,11 +126,17 @@ pub(crate) fn judge_pair(t: Two, s: Set, column: usize) -> Result<(), Flaw>
     judge_test(good_word_or_blank(&bytes, s), 9, column)
 }
 
+fn is_missing(h: Height) -> bool
+    ensures { result ≡ is_missing (height_value h) }
+{
+    matches!(h, Height::Missing)
+}
+
 // A character that is blank exactly when the height is missing.
-pub(crate) fn judge_tied(h: Option<i32>, t: u8, s: Set, column: usize) -> Result<(), Flaw>
+pub(crate) fn judge_tied(h: Height, t: u8, s: Set, column: usize) -> Result<(), Flaw>
     ensures { result ≡ judged_of (check (fits (word 1 (each (set_of s))) (text (t ∷ []))) 9 column ⨾ check (same_truth (is_missing (height_value h)) (is_missing (text (t ∷ [])))) 10 column) }
 {
-    let missing = h.is_none();
+    let missing = is_missing(h);
     let blank = t == 32;
     judge_one(t, s, column)?;
     judge_test((missing & blank) | (!missing & !blank), 10, column)

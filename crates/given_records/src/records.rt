@@ -19,7 +19,7 @@ use crate::judging::{
     judge_text, judge_three, judge_tied, judge_two,
 };
 use columns::numbers::count_fits;
-use columns::{Set, Way};
+use columns::{Height, Set, Way};
 use kinds::accuracies::{CORRELATION, EAST, ELLIPSOID, SCALED};
 use kinds::{
     Antenna, Comment, Continuation, Factor, Flaw, Heights, Instrument, Job, Local, Measurement,
@@ -90,7 +90,7 @@ fn judge_measurement(m: Measurement) -> Result<(), Flaw>
     )?;
     judge_count(m.time, Measurement::TIME_WIDTH, 0, 9999, Measurement::TIME)?;
     judge_height(
-        Some(m.height),
+        Height::Mm(m.height),
         Measurement::HEIGHT_WIDTH,
         9_999,
         99_999,
@@ -141,7 +141,7 @@ fn judge_point(p: Point, a: &[u8]) -> Result<(), Flaw>
 }
 
 // A height of *86*.
-fn judge_metres(h: Option<i32>, w: usize, column: usize) -> Result<(), Flaw>
+fn judge_metres(h: Height, w: usize, column: usize) -> Result<(), Flaw>
     ensures { result ≡ judged_of (check (fits (height w 999_999 9_999_999 true) (height_value h)) 9 column) }
 {
     judge_height(h, w, 999_999, 9_999_999, true, column)

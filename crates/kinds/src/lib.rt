@@ -1,7 +1,7 @@
 // The types of records and of answers. The first column and the width of each field are constants of its record's type.
 #![tactic(auto)]
 
-use columns::{Four, Media};
+use columns::{Four, Height, Media};
 
 pub mod accuracies;
 pub mod tables;
@@ -34,8 +34,8 @@ impl Job {
         ensures { result ≡ record { first = first; second = second } }
     {
         Job {
-            first: first,
-            second: second,
+            first,
+            second,
         }
     }
 
@@ -135,11 +135,11 @@ impl Project {
         ensures { result ≡ record { began = began; ended = ended; initials = initials; second = second; state = state } }
     {
         Project {
-            began: began,
-            ended: ended,
-            initials: initials,
-            second: second,
-            state: state,
+            began,
+            ended,
+            initials,
+            second,
+            state,
         }
     }
 }
@@ -193,11 +193,11 @@ impl Occupation {
         ensures { result ≡ record { station = station; media = media; initials = initials; instrument = instrument; antenna = antenna } }
     {
         Occupation {
-            station: station,
-            media: media,
-            initials: initials,
-            instrument: instrument,
-            antenna: antenna,
+            station,
+            media,
+            initials,
+            instrument,
+            antenna,
         }
     }
 }
@@ -256,10 +256,10 @@ impl Measurement {
         ensures { result ≡ record { station = station; date = date; time = time; height = height } }
     {
         Measurement {
-            station: station,
-            date: date,
-            time: time,
-            height: height,
+            station,
+            date,
+            time,
+            height,
         }
     }
 }
@@ -304,8 +304,8 @@ impl Instrument {
         ensures { result ≡ record { instrument = instrument; equipment = equipment } }
     {
         Instrument {
-            instrument: instrument,
-            equipment: equipment,
+            instrument,
+            equipment,
         }
     }
 }
@@ -350,8 +350,8 @@ impl Antenna {
         ensures { result ≡ record { antenna = antenna; radome = radome } }
     {
         Antenna {
-            antenna: antenna,
-            radome: radome,
+            antenna,
+            radome,
         }
     }
 }
@@ -406,10 +406,10 @@ impl Point {
         ensures { result ≡ record { station = station; latitude = latitude; longitude = longitude; state = state } }
     {
         Point {
-            station: station,
-            latitude: latitude,
-            longitude: longitude,
-            state: state,
+            station,
+            latitude,
+            longitude,
+            state,
         }
     }
 }
@@ -418,14 +418,14 @@ impl Point {
 #[derive(Clone, Copy)]
 pub struct Heights {
     pub station: u32,
-    pub orthometric: Option<i32>,
+    pub orthometric: Height,
     pub code: u8,
     pub class: Two,
     pub indicator: u8,
     pub datum: Two,
-    pub geoid: Option<i32>,
+    pub geoid: Height,
     pub geoidcode: u8,
-    pub ellipsoid: Option<i32>,
+    pub ellipsoid: Height,
     pub ellipsoidcode: u8,
     pub ellipsoiddatum: u8,
 }
@@ -497,31 +497,31 @@ impl Heights {
 
     pub fn new(
         station: u32,
-        orthometric: Option<i32>,
+        orthometric: Height,
         code: u8,
         class: Two,
         indicator: u8,
         datum: Two,
-        geoid: Option<i32>,
+        geoid: Height,
         geoidcode: u8,
-        ellipsoid: Option<i32>,
+        ellipsoid: Height,
         ellipsoidcode: u8,
         ellipsoiddatum: u8,
     ) -> Heights
         ensures { result ≡ record { station = station; orthometric = orthometric; code = code; class = class; indicator = indicator; datum = datum; geoid = geoid; geoidcode = geoidcode; ellipsoid = ellipsoid; ellipsoidcode = ellipsoidcode; ellipsoiddatum = ellipsoiddatum } }
     {
         Heights {
-            station: station,
-            orthometric: orthometric,
-            code: code,
-            class: class,
-            indicator: indicator,
-            datum: datum,
-            geoid: geoid,
-            geoidcode: geoidcode,
-            ellipsoid: ellipsoid,
-            ellipsoidcode: ellipsoidcode,
-            ellipsoiddatum: ellipsoiddatum,
+            station,
+            orthometric,
+            code,
+            class,
+            indicator,
+            datum,
+            geoid,
+            geoidcode,
+            ellipsoid,
+            ellipsoidcode,
+            ellipsoiddatum,
         }
     }
 }
@@ -586,12 +586,12 @@ impl Network {
         ensures { result ≡ record { station = station; north = north; east = east; correlation = correlation; ellipsoid = ellipsoid; scaled = scaled } }
     {
         Network {
-            station: station,
-            north: north,
-            east: east,
-            correlation: correlation,
-            ellipsoid: ellipsoid,
-            scaled: scaled,
+            station,
+            north,
+            east,
+            correlation,
+            ellipsoid,
+            scaled,
         }
     }
 }
@@ -665,13 +665,13 @@ impl Local {
         ensures { result ≡ record { standpoint = standpoint; forepoint = forepoint; north = north; east = east; correlation = correlation; ellipsoid = ellipsoid; scaled = scaled } }
     {
         Local {
-            standpoint: standpoint,
-            forepoint: forepoint,
-            north: north,
-            east: east,
-            correlation: correlation,
-            ellipsoid: ellipsoid,
-            scaled: scaled,
+            standpoint,
+            forepoint,
+            north,
+            east,
+            correlation,
+            ellipsoid,
+            scaled,
         }
     }
 }
@@ -700,8 +700,8 @@ impl Factor {
         ensures { result ≡ record { horizontal = horizontal; vertical = vertical } }
     {
         Factor {
-            horizontal: horizontal,
-            vertical: vertical,
+            horizontal,
+            vertical,
         }
     }
 }

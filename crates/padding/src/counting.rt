@@ -63,24 +63,24 @@ fn walk_on(input: &[u8], from: usize, end: usize, before: u32) -> Walk
     while place < end {
         if lines == 99_999 {
             return Walk {
-                place: place,
-                lines: lines,
+                place,
+                lines,
             };
         }
         let part = middle(input, place, 82);
         let n = feed_at(part);
         if 80 < text_length(part, n) {
             return Walk {
-                place: place,
-                lines: lines,
+                place,
+                lines,
             };
         }
         place += n + 1;
         lines += 1;
     }
     Walk {
-        place: place,
-        lines: lines,
+        place,
+        lines,
     }
 }
 
@@ -167,8 +167,8 @@ pub(crate) fn count_halves(input: &[u8]) -> Halves
         return untold();
     }
     Halves {
-        start: start,
-        near: near,
+        start,
+        near,
         lines: near + far,
     }
 }

@@ -31,9 +31,9 @@ fn refused(number: u32, record: usize, column: usize) -> Padded
 {
     Padded {
         fault: Fault {
-            number: number,
-            record: record,
-            column: column,
+            number,
+            record,
+            column,
         },
         lines: 0,
     }
@@ -48,7 +48,7 @@ fn good(lines: u32) -> Padded
             record: 0,
             column: 0,
         },
-        lines: lines,
+        lines,
     }
 }
 

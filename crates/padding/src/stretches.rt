@@ -35,8 +35,8 @@ fn lay_in_turn(input: &[u8], near: Stretch, far: Stretch, masks: &[u8], out: &mu
     let mut there = far;
     if size < 82 {
         return Stretches {
-            here: here,
-            there: there,
+            here,
+            there,
         };
     }
     let last = size - 82;
@@ -45,8 +45,8 @@ fn lay_in_turn(input: &[u8], near: Stretch, far: Stretch, masks: &[u8], out: &mu
         let from = here.from;
         if last < from {
             return Stretches {
-                here: here,
-                there: there,
+                here,
+                there,
             };
         }
         let part = &input[from..from + 82];
@@ -64,8 +64,8 @@ fn lay_in_turn(input: &[u8], near: Stretch, far: Stretch, masks: &[u8], out: &mu
         there = rest;
     }
     Stretches {
-        here: here,
-        there: there,
+        here,
+        there,
     }
 }
 

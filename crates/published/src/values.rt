@@ -1,5 +1,5 @@
 // One value of a record that was read, named by its field's first column.
-use columns::Four;
+use columns::{Four, Height};
 use kinds::{
     Antenna, Factor, Fault, Heights, Instrument, Job, Local, Measurement, Network, Occupation,
     Point, Record, Two,
@@ -22,10 +22,10 @@ fn whole(n: impl Into<i128>) -> Value {
     Value::Whole(n.into())
 }
 
-fn height(h: Option<i32>) -> Value {
+fn height(h: Height) -> Value {
     match h {
-        None => Value::Missing,
-        Some(z) => whole(z),
+        Height::Missing => Value::Missing,
+        Height::Mm(z) => whole(z),
     }
 }
 

@@ -105,7 +105,7 @@ fn answer_with(number: u32) -> Pulled
 {
     Pulled {
         fault: Fault {
-            number: number,
+            number,
             record: 0,
             column: 0,
         },

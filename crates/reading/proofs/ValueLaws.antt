@@ -41,6 +41,7 @@ use Rattle.kinds.specs.Values.{text_of, char_of, two, three, record_from}
 use Rattle.reading.specs.Values.{nat_in, month_in, height_in, signed_in, job_in, project_in, occupation_in, measurement_in, instrument_in, antenna_in, point_in, heights_in, network_in, local_in, factor_in, record_in}
 use Rattle.std.specs.Prelude.{Option, None}
 use Rattle.std.specs.Option.{unwrap_or}
+use Rattle.columns.specs.declared.Height.{Height}
 
 -- ---- each kind
 module _ (l : List ℕ) where
@@ -123,13 +124,17 @@ or_zero (num (negsuc n)) = refl
 or_zero (text t) = refl
 or_zero (label m d y s t) = refl
 
-or_level : (v : Value) → unwrap_or (height_of v) (pos 0) ≡ int_of v
+abbrev pub int_height : Height → ℤ
+int_height Height.Missing = pos 0
+int_height (Height.Mm z) = z
+
+int_height_lem : (v : Value) → int_height (height_of v) ≡ int_of v
 unfolding height_of int_of
-or_level gap = refl
-or_level missing = refl
-or_level (num z) = refl
-or_level (text t) = refl
-or_level (label m d y s t) = refl
+int_height_lem gap = refl
+int_height_lem missing = refl
+int_height_lem (num z) = refl
+int_height_lem (text t) = refl
+int_height_lem (label m d y s t) = refl
 
 pub number-given : (p : List ℕ) → length p ≤ 8 → {k : Option ℕ} → k ≡ cond (length p ≤? 8) (count_of (value_of (number 0 0 0 true) p)) None → unwrap_or k 0 ≡ nat_of (value_of (number 0 0 0 true) p)
 number-given p h z = rw (z, of≤ h) (or_zero _)
@@ -153,17 +158,24 @@ module _ (l p : List ℕ) where
   unfolding sequence value_of
   sequence_given_lem e z = z ∙ rw e (told 6 8 l _ _ (lit≤ tt))
 
-  pub rise_given : p ≡ take 5 (drop 55 l) → {k : Option ℤ} → k ≡ cond (length p ≤? 7) (height_of (value_of (height 0 0 0 true) p)) None → unwrap_or k (pos 0) ≡ signed_in 56 5 l
-  unfolding signed_in
-  rise_given e {k} z =
-      let k-is : k ≡ height_of (value_of (height 0 0 0 true) (take 5 (drop 55 l))) = z ∙ rw e (told 5 7 (drop 55 l) _ _ (lit≤ tt)) in
-      ap (λ x. unwrap_or x (pos 0)) k-is ∙ or_level _
+  module _ (e : p ≡ take 5 (drop 55 l)) (k : Height) (z : k ≡ cond (length p ≤? 7) (height_of (value_of (height 0 0 0 true) p)) Height.Missing) where
+    risen : int_height k ≡ signed_in 56 5 l
+    unfolding signed_in
+    risen =
+        let k-is : k ≡ height_of (value_of (height 0 0 0 true) (take 5 (drop 55 l))) = z ∙ rw e (told 5 7 (drop 55 l) _ _ (lit≤ tt)) in
+        ap int_height k-is ∙ int_height_lem (value_of (height 0 0 0 true) (take 5 (drop 55 l)))
+
+    pub rise_missing : k ≡ Height.Missing → pos 0 ≡ signed_in 56 5 l
+    rise_missing q = sym (ap int_height q) ∙ risen
+
+    pub rise_given : (n : ℤ) → k ≡ Height.Mm n → n ≡ signed_in 56 5 l
+    rise_given n q = sym (ap int_height q) ∙ risen
 
   pub month-given : (c : ℕ) → p ≡ take 6 (drop (c - 1) l) → {r : ℕ} → r ≡ cond (length p ≤? 8) (nat_of (value_of month p)) 0 → r ≡ month_in c l
   unfolding month_in
   month-given c e z = z ∙ rw e (told 6 8 (drop (c - 1) l) _ _ (lit≤ tt))
 
-  pub height-given : (c : ℕ) → p ≡ take 7 (drop (c - 1) l) → {r : Option ℤ} → r ≡ cond (length p ≤? 7) (height_of (value_of (height 0 0 0 true) p)) None → r ≡ height_in c l
+  pub height-given : (c : ℕ) → p ≡ take 7 (drop (c - 1) l) → {r : Height} → r ≡ cond (length p ≤? 7) (height_of (value_of (height 0 0 0 true) p)) Height.Missing → r ≡ height_in c l
   unfolding height_in
   height-given c e z = z ∙ rw e (told 7 7 (drop (c - 1) l) _ _ (lit≤ tt))
 
@@ -233,9 +245,9 @@ module _ (l : List ℕ) where
   unfolding point_in
   point-given a x p e b y q f c z d u w = w ∙ rw (x, y, e, z, f, u)
 
-  pub heights-given : (a : ℕ) → a ≡ nat_in 11 4 l → (b : Option ℤ) → b ≡ height_in 17 l → (c : ℕ) → c ≡ get_or (take 1 (drop 23 l)) 0 0 → (d : Two) → d ≡ two (take 2 (drop 24 l))
-      → (e : ℕ) → e ≡ get_or (take 1 (drop 26 l)) 0 0 → (f : Two) → f ≡ two (take 2 (drop 27 l)) → (g : Option ℤ) → g ≡ height_in 36 l → (h : ℕ) → h ≡ get_or (take 1 (drop 42 l)) 0 0
-      → (i : Option ℤ) → i ≡ height_in 46 l → (j : ℕ) → j ≡ get_or (take 1 (drop 52 l)) 0 0 → (k : ℕ) → k ≡ get_or (take 1 (drop 55 l)) 0 0
+  pub heights-given : (a : ℕ) → a ≡ nat_in 11 4 l → (b : Height) → b ≡ height_in 17 l → (c : ℕ) → c ≡ get_or (take 1 (drop 23 l)) 0 0 → (d : Two) → d ≡ two (take 2 (drop 24 l))
+      → (e : ℕ) → e ≡ get_or (take 1 (drop 26 l)) 0 0 → (f : Two) → f ≡ two (take 2 (drop 27 l)) → (g : Height) → g ≡ height_in 36 l → (h : ℕ) → h ≡ get_or (take 1 (drop 42 l)) 0 0
+      → (i : Height) → i ≡ height_in 46 l → (j : ℕ) → j ≡ get_or (take 1 (drop 52 l)) 0 0 → (k : ℕ) → k ≡ get_or (take 1 (drop 55 l)) 0 0
       → {r : Heights} → r ≡ record { station = a; orthometric = b; code = c; class = d; indicator = e; datum = f; geoid = g; geoidcode = h; ellipsoid = i; ellipsoidcode = j; ellipsoiddatum = k }
       → r ≡ heights_in l
   unfolding heights_in

@@ -20,6 +20,7 @@ use Rattle.kinds.specs.declared.Factor.{Factor}
 use Rattle.kinds.specs.declared.Record.{Record}
 use Rattle.kinds.specs.Values.{two, three, record_from}
 use Rattle.judging.specs.Judging.{part}
+use Rattle.columns.specs.declared.Height.{Height}
 
 unfoldable pub nat_in : ℕ → ℕ → List ℕ → ℕ
 nat_in c w l = nat_of (value_of (number 0 0 0 true) (part c w l))
@@ -27,7 +28,7 @@ nat_in c w l = nat_of (value_of (number 0 0 0 true) (part c w l))
 unfoldable pub month_in : ℕ → List ℕ → ℕ
 month_in c l = nat_of (value_of month (part c 6 l))
 
-unfoldable pub height_in : ℕ → List ℕ → Option ℤ
+unfoldable pub height_in : ℕ → List ℕ → Height
 height_in c l = height_of (value_of (height 0 0 0 true) (part c 7 l))
 
 unfoldable pub signed_in : ℕ → ℕ → List ℕ → ℤ

@@ -11,7 +11,7 @@ use columns::heights::{read_height, read_signed};
 use columns::labels::read_media;
 use columns::numbers::{read_count, read_month, value_of};
 use columns::parts::{byte_at, middle};
-use columns::{Four, Way};
+use columns::{Four, Height, Way};
 use kinds::{
     Antenna, Comment, Continuation, Factor, Heights, Instrument, Job, Local, Measurement, Network,
     Occupation, Point, Project, Record, Three, Title, Two,
@@ -54,7 +54,7 @@ fn month_in(line: &[u8], first: usize) -> u32
     read_month(middle(line, first - 1, Project::BEGAN_WIDTH))
 }
 
-fn height_in(line: &[u8], first: usize) -> Option<i32>
+fn height_in(line: &[u8], first: usize) -> Height
     requires { 1 ≤ first }
     ensures { result ≡ height_in first line.now }
 {
@@ -65,7 +65,10 @@ fn height_in(line: &[u8], first: usize) -> Option<i32>
 fn rise_in(line: &[u8]) -> i32
     ensures { result ≡ signed_in 56 5 line.now }
 {
-    read_height(middle(line, Measurement::HEIGHT - 1, Measurement::HEIGHT_WIDTH)).unwrap_or(0)
+    match read_height(middle(line, Measurement::HEIGHT - 1, Measurement::HEIGHT_WIDTH)) {
+        Height::Missing => 0,
+        Height::Mm(z) => z,
+    }
 }
 
 // The ten columns of a standard deviation or of a correlation. Whatever stands there fits 64 bits.

@@ -1,15 +1,15 @@
 // What is printed: words parted by blanks, a line for each thing.
-use columns::{Four, Media};
+use columns::{Four, Height, Media};
 use kinds::{
     Antenna, Fault, Heights, Local, Measurement, Network, Occupation, Point, Project, Record,
     Three, Two,
 };
 use std::io;
 
-fn height(rt: &impl Print, h: Option<i32>) -> io::Result<()> {
+fn height(rt: &impl Print, h: Height) -> io::Result<()> {
     match h {
-        None => print!(rt; "missing "),
-        Some(z) => print!(rt; "{z} "),
+        Height::Missing => print!(rt; "missing "),
+        Height::Mm(z) => print!(rt; "{z} "),
     }
 }
 

@@ -1,5 +1,6 @@
 // Values that write must refuse, each with the number and column that it answers, after two bytes of the output, which is left as it was.
 use crate::print::show_fault;
+use columns::Height;
 use kinds::{
     Factor, Fault, Heights, Job, Local, Measurement, Network, Point, Project, Record, Three, Two,
 };
@@ -102,10 +103,10 @@ fn measurements(rt: &impl Print) -> io::Result<()> {
 
 fn heights(
     rt: &impl Print,
-    orthometric: Option<i32>,
+    orthometric: Height,
     code: u8,
     indicator: u8,
-    geoid: Option<i32>,
+    geoid: Height,
     model: u8,
 ) -> io::Result<()> {
     let blank = Two(b' ', b' ');
@@ -118,7 +119,7 @@ fn heights(
         blank,
         geoid,
         model,
-        None,
+        Height::Missing,
         b' ',
         b' ',
     );
@@ -132,12 +133,12 @@ fn heights(
 }
 
 fn all_heights(rt: &impl Print) -> io::Result<()> {
-    heights(rt, None, b' ', b' ', None, b' ')?;
-    heights(rt, None, b'A', b' ', None, b' ')?;
-    heights(rt, Some(0), b'A', b' ', None, b' ')?;
-    heights(rt, Some(-1_000_000), b'A', b'Y', None, b' ')?;
-    heights(rt, Some(-999_999), b'A', b'Y', Some(-500), b' ')?;
-    heights(rt, Some(10_000_000), b'A', b'Y', Some(-500), b'6')
+    heights(rt, Height::Missing, b' ', b' ', Height::Missing, b' ')?;
+    heights(rt, Height::Missing, b'A', b' ', Height::Missing, b' ')?;
+    heights(rt, Height::Mm(0), b'A', b' ', Height::Missing, b' ')?;
+    heights(rt, Height::Mm(-1_000_000), b'A', b'Y', Height::Missing, b' ')?;
+    heights(rt, Height::Mm(-999_999), b'A', b'Y', Height::Mm(-500), b' ')?;
+    heights(rt, Height::Mm(10_000_000), b'A', b'Y', Height::Mm(-500), b'6')
 }
 
 fn network(

@@ -25,6 +25,7 @@ use Rattle.columns.specs.Leaves.{written, height_columns}
 use Rattle.columns.proofs.Loops.{suc_less_one}
 use Rattle.styling.specs.Laying.{roomy, lay, lay_fields}
 use Rattle.std.specs.Prelude.{Option, Some, None, ℤ}
+use Rattle.columns.specs.declared.Height.{Height}
 
 -- ---- one field
 pub room_fits : (n c w : ℕ) → roomy n c w ≡ true → (1 ≤ c) × (c - 1 + w ≤ n)
@@ -78,12 +79,12 @@ unfolding render on_number count_value
 count_wide w None = length-replicate {A = ℕ} w 32
 count_wide w (Some n) = length-put w n
 
-pub height-wide : (w : ℕ) (h : Option ℤ) → length (height_columns w h) ≡ w
+pub height-wide : (w : ℕ) (h : Height) → length (height_columns w h) ≡ w
 unfolding height_columns render on_number height_value
 height-wide zero h = refl
-height-wide (suc w) None = length-replicate {A = ℕ} (suc w) 32
-height-wide (suc w) (Some (pos n)) = length-put (suc w) n
-height-wide (suc w) (Some (negsuc n)) = ap suc (length-put (suc w - 1) (suc n) ∙ suc_less_one w)
+height-wide (suc w) Height.Missing = length-replicate {A = ℕ} (suc w) 32
+height-wide (suc w) (Height.Mm (pos n)) = length-put (suc w) n
+height-wide (suc w) (Height.Mm (negsuc n)) = ap suc (length-put (suc w - 1) (suc n) ∙ suc_less_one w)
 
 pub media-columns : width media ≡ 10
 unfolding width

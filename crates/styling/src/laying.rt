@@ -12,7 +12,7 @@ use columns::heights::{put_height, put_signed};
 use columns::labels::put_media;
 use columns::numbers::put_count;
 use columns::writers::{put_digits, put_text};
-use columns::{Four, Media, Way};
+use columns::{Four, Height, Media, Way};
 use kinds::{Three, Two};
 
 fn has_room(n: usize, column: usize, w: usize) -> bool
@@ -58,7 +58,7 @@ pub fn lay_blank(line: &mut [u8], column: usize, w: usize)
 }
 
 pub fn lay_signed(line: &mut [u8], column: usize, w: usize, z: i64)
-    ensures { line.new ≡ lay column (height_columns w (Some z)) line.old }
+    ensures { line.new ≡ lay column (height_columns w (Height.Mm z)) line.old }
 {
     if has_room(line.len(), column, w) {
         let at = column - 1;
@@ -66,7 +66,7 @@ pub fn lay_signed(line: &mut [u8], column: usize, w: usize, z: i64)
     }
 }
 
-pub fn lay_height(line: &mut [u8], column: usize, w: usize, h: Option<i32>)
+pub fn lay_height(line: &mut [u8], column: usize, w: usize, h: Height)
     ensures { line.new ≡ lay column (height_columns w h) line.old }
 {
     if has_room(line.len(), column, w) {

@@ -73,10 +73,7 @@ fn judge_both(file: &[u8], words: &mut [u32]) -> Both
     let form = walk_file(file, words);
     let references = refer_walked(file, words, form);
     settle(words, references.number);
-    Both {
-        form: form,
-        references: references,
-    }
+    Both { form, references }
 }
 
 // Form and order with a count of each kind of record, or the first fault of these. There is no table to fill.

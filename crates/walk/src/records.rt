@@ -24,9 +24,9 @@ pub fn refused(number: u32, record: usize, column: usize) -> Checked
 {
     Checked {
         fault: Fault {
-            number: number,
-            record: record,
-            column: column,
+            number,
+            record,
+            column,
         },
         counts: [0u32; 14],
     }
@@ -147,6 +147,6 @@ pub(crate) fn walk_records(
             record: 0,
             column: 0,
         },
-        counts: counts,
+        counts,
     }
 }

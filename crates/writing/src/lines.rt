@@ -12,7 +12,7 @@ ghost use Rattle.given_records.specs.Accuracies.{accuracy_fields, accuracy_value
 ghost use Rattle.given_records.specs.Judging.{layout_of};
 ghost use Rattle.styling.specs.Laying.{lay_fields};
 
-use columns::{Four, Way};
+use columns::{Four, Height, Way};
 use kinds::accuracies::{CORRELATION, EAST, ELLIPSOID, SCALED, SPACER};
 use kinds::{
     Antenna, Comment, Continuation, Factor, Heights, Instrument, Job, Local, Measurement, Network,
@@ -82,7 +82,7 @@ fn lay_measurement(line: &mut [u8], m: Measurement)
         line,
         Measurement::HEIGHT,
         Measurement::HEIGHT_WIDTH,
-        Some(m.height),
+        Height::Mm(m.height),
     );
     lay_blank(line, Measurement::END, Measurement::END_WIDTH);
 }

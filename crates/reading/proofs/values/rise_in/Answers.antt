@@ -1,8 +1,9 @@
-use Rattle.std.proofs.Common.{◌∙◌}
-use mir.Syntax.{w32}
-use mir.ValLaws.{to_z-of_z}
-use Rattle.reading.proofs.ValueLaws.{rise_given}
+use borrow.Author.Rules.{rules}
+use Rattle.reading.proofs.ValueLaws.{rise_missing, rise_given}
 use Rattle.reading.proofs.values.rise_in.Goals as goal
 
-pub returns : goal.returns
-returns c = to_z-of_z w32 _ (record { sfits = c.unwrap_or.type_inv }) ∙ c.unwrap_or.ensures ∙ rise_given c.args.line.now _ c.middle.ensures c.read_height.ensures
+pub returns-in-Missing : goal.returns-in-Missing
+returns-in-Missing c = search (rise_missing, rules)
+
+pub returns-in-Mm : goal.returns-in-Mm
+returns-in-Mm c = search (rise_given, rules)

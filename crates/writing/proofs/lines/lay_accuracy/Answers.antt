@@ -10,9 +10,10 @@ use Rattle.kinds.specs.Tables.{field_of}
 use Rattle.styling.specs.Laying.{lay, lay_fields}
 use Rattle.writing.proofs.lines.lay_accuracy.Goals as goal
 use Rattle.std.specs.Prelude.{Some}
+use Rattle.columns.specs.declared.Height.{Height}
 
 pub returns : goal.returns
 unfolding lay_fields field_of height_columns height_value render on_number on_text on_gap
 returns c =
     let a = c.args in
-    rw (c.lay_one.ensures, c.lay_blank.ensures, c.lay_long-3.ensures, c.lay_signed.ensures ∙ ap (λ z. lay (a.first + 20) (height_columns 10 (Some z)) c.lay_long-2.new.line) (to_z-of_z w64 _ c.ranges.correlation), c.lay_long-2.ensures, c.lay_long.ensures)
+    rw (c.lay_one.ensures, c.lay_blank.ensures, c.lay_long-3.ensures, c.lay_signed.ensures ∙ ap (λ z. lay (a.first + 20) (height_columns 10 (Height.Mm z)) c.lay_long-2.new.line) (to_z-of_z w64 _ c.ranges.correlation), c.lay_long-2.ensures, c.lay_long.ensures)
