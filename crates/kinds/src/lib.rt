@@ -745,7 +745,7 @@ impl Record {
     pub const CODE_WIDTH: usize = 4;
 }
 
-// A refusal: 01's number, record and column. The number 0 is acceptance.
+// A refusal: 01's number, record and column.
 #[derive(Clone, Copy, PartialEq, Eq, Debug)]
 pub struct Fault {
     pub number: u32,
@@ -763,13 +763,6 @@ impl Fault {
             column,
         }
     }
-}
-
-// What form and rewrite answer: a fault, number 0 for acceptance, and a count of each kind of record, all 0 after a refusal.
-#[derive(Clone, Copy)]
-pub struct Checked {
-    pub fault: Fault,
-    pub counts: [u32; 14],
 }
 
 // What is wrong with a line or with some of its fields: the number and column of the first fault.
