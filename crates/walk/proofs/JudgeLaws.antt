@@ -30,6 +30,11 @@ unfolding answer_of is_accept
 answer_accepts accept ms = refl
 answer_accepts (refuse n r c) ms = refl
 
+pub answer_ok : (x : files.Result) (ms : List Meaning) → is_ok (answer_of x ms) ≡ is_accept x
+unfolding answer_of is_accept
+answer_ok accept ms = refl
+answer_ok (refuse n r c) ms = refl
+
 pub answer_told : (x : files.Result) (ms : List Meaning) → ((n r c : ℕ) → x ≡ refuse n r c → 1 ≤ n) → checked_of (answer x ms) ≡ answer_of x ms
 unfolding checked_of answer answer_of
 answer_told accept ms h = unfold ◌=?◌ in refl
@@ -101,7 +106,7 @@ joins accept accept ms h = refl
 joins accept (refuse n r c) ms h = let k = h n r c refl refl in rw (of≢ {m = n} {n = 14} (λ z. omega (arith, z, k.1)))
 joins (refuse n r c) y ms h = unfold ◌=?◌ in refl
 
-outcome_from_1 : (enough : Bool) (f : List ℕ) (n r c : ℕ) → outcome enough f ≡ refuse n r c → 1 ≤ n
+pub outcome_from_1 : (enough : Bool) (f : List ℕ) (n r c : ℕ) → outcome enough f ≡ refuse n r c → 1 ≤ n
 unfolding outcome
 outcome_from_1 true f n r c e = omega (arith, (file_numbers f n r c e).0)
 outcome_from_1 false f n r c e = let y : 1 ≡ n = cc in omega arith
