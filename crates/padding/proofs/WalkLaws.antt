@@ -15,7 +15,7 @@ use Rattle.rules.specs.Padding.{texts, judge_texts, pad_answer_by}
 use Rattle.rules.proofs.Truth.{and, of≤, cases, all_append}
 use Rattle.rules.proofs.FileLaws.{is_accept_lem}
 use Rattle.rules.proofs.PaddingLaws.{short_passed, short_texts}
-use Rattle.padding.specs.declared.Padded.{Padded}
+use Rattle.std.specs.Prelude.{Ok}
 use Rattle.padding.specs.Lines.{feed_at, text_length}
 use Rattle.padding.specs.Walks.{lines_ahead, too_long, long_ahead, sum, Passed, Told, Halved}
 use Rattle.padding.specs.Promise.{padded_of}
@@ -199,6 +199,5 @@ module _ (f : List ℕ) (start : ℕ) (some : 1 ≤ start) (h : start ≤ length
     }
 
 -- the answer
-pub told-good : (f : List ℕ) (n : ℕ) → Told f n → (n ≡ 0 → ⊥) → (v : Padded) → v ≡ padded_of (pad_answer_by accept n)
-    → v ≡ padded_of (pad_answer_by (judge_texts 1 (texts f)) (length (texts f)))
-told-good f n t z v e = answer_is f v accept n e (sym (t.passes z)) (t.counted z)
+pub told-good : (f : List ℕ) (n : ℕ) → Told f n → (n ≡ 0 → ⊥) → Ok n ≡ padded_of (pad_answer_by (judge_texts 1 (texts f)) (length (texts f)))
+told-good f n t z = answer_is f n (sym (t.passes z)) (t.counted z)
