@@ -1,7 +1,7 @@
 // The shortest table and output that do, and one word or one byte less, which is fault 1 and touches nothing.
 use crate::input::read_file;
 use crate::lent::{BYTE, WORD, show_kept_bytes, show_kept_words};
-use crate::print::{show_checked, show_fault, text};
+use crate::print::{show_answer, show_checked, text};
 use std::io;
 use std::rt::Files;
 
@@ -42,8 +42,8 @@ fn try_output(rt: &impl Print, file: &[u8], table: &mut [u32], n: usize) -> io::
 fn short_table(rt: &impl Print, file: &[u8]) -> io::Result<()> {
     let mut table = [WORD; 11999];
     text(rt, b"a table of 11999 words\nreferences ")?;
-    let fault = walk::references(file, &mut table);
-    show_fault(rt, fault)?;
+    let answer = walk::references(file, &mut table);
+    show_answer(rt, answer)?;
     show_table(rt, &table)?;
     try_output(rt, file, &mut table, file.len())
 }

@@ -3,9 +3,9 @@ use crate::compare::bytes_differing;
 use crate::dress::rewrite_file;
 use crate::input::read_file;
 use crate::lent::{BYTE, WORD, show_changed_bytes};
-use crate::print::{show_checked, show_fault, size, text, word};
+use crate::print::{show_answer, show_checked, size, text, word};
 use columns::parts::middle;
-use padding::Padded;
+use kinds::Fault;
 use std::io;
 use std::rt::Files;
 
@@ -40,12 +40,12 @@ fn show_part(rt: &impl Print, part: &[u8]) -> io::Result<()> {
         show_lines(rt, part)?;
     }
     text(rt, b"form ")?;
-    let checked = walk::form(part);
-    show_checked(rt, checked)?;
+    let answer = walk::form(part);
+    show_checked(rt, answer)?;
     let mut table = [WORD; 12000];
     text(rt, b"references ")?;
-    let fault = walk::references(part, &mut table);
-    show_fault(rt, fault)
+    let answer = walk::references(part, &mut table);
+    show_answer(rt, answer)
 }
 
 // The lines are the first bytes of the output.
@@ -59,21 +59,21 @@ fn show_padded(rt: &impl Print, lines: u32, out: &[u8]) -> io::Result<()> {
     Ok(())
 }
 
-fn show_answer(rt: &impl Print, p: Padded) -> io::Result<()> {
+fn show_lines_told(rt: &impl Print, answer: Result<u32, Fault>) -> io::Result<()> {
     text(rt, b"pad ")?;
-    show_fault(rt, p.fault)?;
+    show_answer(rt, answer)?;
     text(rt, b"lines ")?;
-    word(rt, p.lines)?;
+    word(rt, answer.unwrap_or(0))?;
     text(rt, b"\n")
 }
 
 fn try_pad(rt: &impl Print, input: &[u8], out: &mut [u8]) -> io::Result<()> {
-    let p = padding::pad(input, out);
-    show_answer(rt, p)?;
+    let answer = padding::pad(input, out);
+    show_lines_told(rt, answer)?;
     text(rt, b"bytes of the output: ")?;
     show_changed_bytes(rt, out)?;
-    if p.fault.number == 0 {
-        show_padded(rt, p.lines, out)?;
+    if let Ok(lines) = answer {
+        show_padded(rt, lines, out)?;
     }
     text(rt, b"\n")
 }
@@ -120,7 +120,7 @@ pub(crate) fn try_inputs(rt: &(impl Files + Print + Eprint)) -> io::Result<()> {
 fn pad_file(rt: &(impl Files + Eprint), path: &[u8], out: &mut [u8; 65536]) -> io::Result<()> {
     let mut space = [0u8; 65536];
     let n = read_file(rt, path, &mut space)?;
-    padding::pad(&space[..n], out);
+    let _ = padding::pad(&space[..n], out);
     Ok(())
 }
 
@@ -147,8 +147,8 @@ fn compare_padded(rt: &(impl Files + Print + Eprint), input: &[u8], file: &[u8])
 
 fn rewrite_lines(rt: &impl Print, lines: &[u8; 65536], out: &mut [u8; 65536]) -> io::Result<()> {
     let mut table = [WORD; 12000];
-    let checked = rewriting::rewrite(middle(lines, 0, ENOUGH), &mut table, out);
-    show_checked(rt, checked)
+    let answer = rewriting::rewrite(middle(lines, 0, ENOUGH), &mut table, out);
+    show_checked(rt, answer)
 }
 
 fn rewrite_padded(

@@ -1,5 +1,5 @@
 // What is printed: a line for each thing, each number after the words that say what it is.
-use kinds::{Checked, Fault};
+use kinds::Fault;
 use std::io;
 
 pub(crate) fn text(rt: &impl Print, t: &[u8]) -> io::Result<()> {
@@ -18,7 +18,7 @@ pub(crate) fn word(rt: &impl Print, n: u32) -> io::Result<()> {
     number(rt, n as u64)
 }
 
-pub(crate) fn show_fault(rt: &impl Print, f: Fault) -> io::Result<()> {
+fn show_fault(rt: &impl Print, f: Fault) -> io::Result<()> {
     text(rt, b"fault ")?;
     word(rt, f.number)?;
     text(rt, b" record ")?;
@@ -26,6 +26,14 @@ pub(crate) fn show_fault(rt: &impl Print, f: Fault) -> io::Result<()> {
     text(rt, b" column ")?;
     size(rt, f.column)?;
     text(rt, b"\n")
+}
+
+// An answer's fault, with the number 0 for acceptance.
+pub(crate) fn show_answer<T: Copy>(rt: &impl Print, answer: Result<T, Fault>) -> io::Result<()> {
+    match answer {
+        Ok(_) => show_fault(rt, Fault::new(0, 0, 0)),
+        Err(fault) => show_fault(rt, fault),
+    }
 }
 
 fn show_count(rt: &impl Print, n: u32) -> io::Result<()> {
@@ -42,9 +50,8 @@ fn show_counts(rt: &impl Print, counts: &[u32; 14]) -> io::Result<()> {
     text(rt, b"\n")
 }
 
-pub(crate) fn show_checked(rt: &impl Print, c: Checked) -> io::Result<()> {
-    let fault = c.fault;
-    let counts = c.counts;
-    show_fault(rt, fault)?;
-    show_counts(rt, &counts)
+// Zeros are printed for the counts of a refusal.
+pub(crate) fn show_checked(rt: &impl Print, answer: Result<[u32; 14], Fault>) -> io::Result<()> {
+    show_answer(rt, answer)?;
+    show_counts(rt, &answer.unwrap_or([0; 14]))
 }

@@ -3,8 +3,9 @@ use crate::dress::rewrite_file;
 use crate::input::read_file;
 use crate::lent::{BYTE, WORD, show_changed_bytes};
 use crate::padded::{show_differing, show_lines};
-use crate::print::{show_fault, size, text, word};
+use crate::print::{show_answer, size, text, word};
 use columns::parts::middle;
+use kinds::Fault;
 use reading::lines::count_begun;
 use std::io;
 use std::rt::Files;
@@ -29,8 +30,13 @@ fn show_words(rt: &impl Print, words: &[u32]) -> io::Result<()> {
 }
 
 // Of a refused call nothing is to be seen but what was lent.
-fn show_pulled(rt: &impl Print, number: u32, entries: usize, out: &[u8]) -> io::Result<()> {
-    if number == 0 {
+fn show_pulled(
+    rt: &impl Print,
+    answer: Result<(), Fault>,
+    entries: usize,
+    out: &[u8],
+) -> io::Result<()> {
+    if answer.is_ok() {
         if entries <= MOST {
             show_lines(rt, middle(out, 0, 81 * entries))?;
         }
@@ -45,15 +51,14 @@ fn try_lent(
     out: &mut [u8],
     faults: &mut [u32],
 ) -> io::Result<()> {
-    let p = pulling::pull(file, records, out, faults);
-    let fault = p.fault;
+    let answer = pulling::pull(file, records, out, faults);
     text(rt, b"pull ")?;
-    show_fault(rt, fault)?;
+    show_answer(rt, answer)?;
     text(rt, b"fault list")?;
     show_words(rt, faults)?;
     text(rt, b"bytes of the output: ")?;
     show_changed_bytes(rt, out)?;
-    show_pulled(rt, fault.number, records.len(), out)?;
+    show_pulled(rt, answer, records.len(), out)?;
     text(rt, b"\n")
 }
 
@@ -174,7 +179,7 @@ fn pull_first(file: &[u8], list: &[u32], out: &mut [u8; 65536]) {
     let n = count_begun(file);
     if n <= list.len() {
         let mut faults = [WORD; MOST];
-        pulling::pull(file, &list[0..n], out, &mut faults);
+        let _ = pulling::pull(file, &list[0..n], out, &mut faults);
     }
 }
 

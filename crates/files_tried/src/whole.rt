@@ -1,9 +1,8 @@
 // One file through form, references and rewrite, with a word more of table and a record more of output than they need.
 use crate::compare::words_differing;
 use crate::lent::{BYTE, WORD, show_kept_bytes};
-use crate::print::{number, show_checked, show_fault, size, text};
+use crate::print::{number, show_answer, show_checked, size, text};
 use crate::table::show_table;
-use kinds::Fault;
 use std::io;
 
 fn wide(byte: u8) -> u64 {
@@ -45,8 +44,8 @@ fn show_written(rt: &impl Print, n: usize, out: &[u8]) -> io::Result<()> {
 }
 
 // A refusal leaves all of the output as it was.
-fn show_output(rt: &impl Print, fault: Fault, n: usize, out: &[u8]) -> io::Result<()> {
-    if fault.number == 0 {
+fn show_output(rt: &impl Print, accepted: bool, n: usize, out: &[u8]) -> io::Result<()> {
+    if accepted {
         show_written(rt, n, out)?;
     } else {
         text(rt, b"bytes of the output: ")?;
@@ -57,14 +56,14 @@ fn show_output(rt: &impl Print, fault: Fault, n: usize, out: &[u8]) -> io::Resul
 
 fn try_form(rt: &impl Print, file: &[u8]) -> io::Result<()> {
     text(rt, b"form ")?;
-    let checked = walk::form(file);
-    show_checked(rt, checked)
+    let answer = walk::form(file);
+    show_checked(rt, answer)
 }
 
 fn try_references(rt: &impl Print, file: &[u8], table: &mut [u32; 12001]) -> io::Result<()> {
     text(rt, b"references ")?;
-    let fault = walk::references(file, table);
-    show_fault(rt, fault)?;
+    let answer = walk::references(file, table);
+    show_answer(rt, answer)?;
     show_table(rt, table)
 }
 
@@ -76,13 +75,12 @@ fn try_rewrite(
 ) -> io::Result<()> {
     let mut table = [WORD; 12001];
     text(rt, b"rewrite ")?;
-    let checked = rewriting::rewrite(file, &mut table, out);
-    show_checked(rt, checked)?;
+    let answer = rewriting::rewrite(file, &mut table, out);
+    show_checked(rt, answer)?;
     text(rt, b"words other than after references: ")?;
     size(rt, words_differing(&table, before))?;
     text(rt, b"\n")?;
-    let fault = checked.fault;
-    show_output(rt, fault, file.len(), out)
+    show_output(rt, answer.is_ok(), file.len(), out)
 }
 
 // The output has room for one record more than the file.

@@ -2,7 +2,7 @@
 use crate::cells::Spot;
 use crate::faults::{lay_fault, lay_outcome};
 use crate::text::{SPACE, lay, lay_number, put, within};
-use kinds::{Checked, Fault};
+use kinds::Fault;
 
 fn lay_count(out: &mut [u8; SPACE], at: usize, n: u32) -> usize {
     let behind = put(out, at, b' ');
@@ -18,13 +18,11 @@ fn lay_counts(out: &mut [u8; SPACE], counts: &[u32; 14]) -> usize {
     at
 }
 
-fn lay_verdict(out: &mut [u8; SPACE], c: Checked) -> usize {
-    let fault = c.fault;
-    let counts = c.counts;
-    if fault.number == 0 {
-        return lay_counts(out, &counts);
+fn lay_verdict(out: &mut [u8; SPACE], answer: Result<[u32; 14], Fault>) -> usize {
+    match answer {
+        Ok(counts) => lay_counts(out, &counts),
+        Err(fault) => lay_fault(out, fault),
     }
-    lay_fault(out, fault)
 }
 
 pub(crate) fn lay_formed(out: &mut [u8; SPACE], file: &[u8]) -> usize {
@@ -33,19 +31,15 @@ pub(crate) fn lay_formed(out: &mut [u8; SPACE], file: &[u8]) -> usize {
 
 pub(crate) fn lay_referred(out: &mut [u8; SPACE], file: &[u8]) -> usize {
     let mut table = [0u32; 12000];
-    let fault = walk::references(file, &mut table);
-    if fault.number == 0 {
-        return lay(out, 0, b"accepted");
+    match walk::references(file, &mut table) {
+        Ok(()) => lay(out, 0, b"accepted"),
+        Err(fault) => lay_fault(out, fault),
     }
-    lay_fault(out, fault)
 }
 
 fn rewrite_file(file: &[u8], space: &mut [u8; SPACE]) -> Result<(), Fault> {
     let mut table = [0u32; 12000];
-    let c = rewriting::rewrite(file, &mut table, space);
-    if c.fault.number != 0 {
-        return Err(c.fault);
-    }
+    rewriting::rewrite(file, &mut table, space)?;
     Ok(())
 }
 
