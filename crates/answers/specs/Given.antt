@@ -15,7 +15,7 @@ use Rattle.kinds.specs.declared.Local.{Local}
 use Rattle.kinds.specs.declared.Record.{Record}
 use Rattle.kinds.specs.declared.Record.TheVariants as R
 use Rattle.kinds.specs.declared.Fault.{Fault}
-use Rattle.answers.specs.Answers.{fault_words, Small}
+use Rattle.answers.specs.Answers.{fault_words, fault_in, Small}
 use Rattle.columns.specs.declared.Height.{Height}
 
 -- ---- one word: what its field's type cannot hold is taken for a value that no field holds, so that it is refused at its own column
@@ -154,9 +154,4 @@ sequence_given ws = sequence_of (word_at ws 1)
 
 -- ---- the answer: number, record, column
 unfoldable pub written_words : Result (Unit {0}) Fault → List ℕ
-written_words (Ok v) = 0 ∷ 0 ∷ 0 ∷ []
-written_words (Err f) = fault_words f
-
--- a refusal's column fits a word
-pub record Noted (w : Result (Unit {0}) Fault) : Type 0 where
-  pub small : (f : Fault) → w ≡ Err f → Small f
+written_words w = fault_words (fault_in w)

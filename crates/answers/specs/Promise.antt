@@ -6,7 +6,7 @@ use Rattle.rules.specs.Padding.{pad_answer, pad_output}
 use Rattle.rules.specs.Pulling.{pull_answer, pull_output, pull_faults}
 use Rattle.kinds.specs.Values.{kind_number, meaning_of, checked_of, fault_of, reading_of, written_of}
 use Rattle.padding.specs.Promise.{padded_of}
-use Rattle.answers.specs.Answers.{answered, touched, fault_words, checked_words, padded_words, field_words}
+use Rattle.answers.specs.Answers.{answered, touched, fault_words, fault_in, checked_words, padded_words, field_words}
 use Rattle.answers.specs.Words.{read_words}
 use Rattle.answers.specs.Given.{given, sequence_given, written_words}
 use Rattle.columns.specs.Types.{count_value}
@@ -17,7 +17,7 @@ pub record Forms (f a b : List ℕ) : Type 0 where
 
 -- and of a table t: the table u
 pub record Refers (f t a u b : List ℕ) : Type 0 where
-  pub answer : b ≡ answered 3 (fault_words (fault_of (references_answer f t))) a
+  pub answer : b ≡ answered 3 (fault_words (fault_in (fault_of (references_answer f t)))) a
   pub table : u ≡ touched 3 a (references_table f t) t
 
 -- and of an output o: the output p
@@ -33,7 +33,7 @@ pub record Pads (f o a p b : List ℕ) : Type 0 where
 
 -- of a file f, a list rs of record numbers, an output o and a fault list s: the output p and the fault list q
 pub record Pulls (f rs o s a p q b : List ℕ) : Type 0 where
-  pub answer : b ≡ answered 3 (fault_words (fault_of (pull_answer rs o s))) a
+  pub answer : b ≡ answered 3 (fault_words (fault_in (fault_of (pull_answer rs o s)))) a
   pub out : p ≡ touched 3 a (pull_output f rs o s) o
   pub faults : q ≡ touched 3 a (pull_faults f rs o s) s
 

@@ -3,17 +3,17 @@ use mathlib.Core.Path.{◌≡◌, refl, sym, ◌∙◌, ap}
 use mathlib.Core.List.{List, [], ◌∷◌, ◌++◌, append-nil}
 use Prim.Native.Nat.{ℕ, ◌+◌, ◌-◌, ◌*◌, ◌≤◌, ◌<◌}
 use native.Mathlib.Omega.{arith}
-use lib.ListN.{length, drop, set, length-take, length-drop, drop_of_length-le}
-use lib.Seq.{drop-drop}
+use lib.ListN.{replicate, length, take, drop, get_or, set, length-take, length-drop, drop_of_length-le}
+use lib.Seq.{take-suc, take-suc-set, take_all, drop-drop}
 use borrow.Rule.Slice.PartMut.{put_mid}
+use Rattle.std.specs.Prelude.{Result, Ok, Err}
+use Rattle.std.specs.Result.{result_unwrap_or}
 use Rattle.rules.specs.Tests.{◌=?◌}
 use Rattle.rules.specs.Calls.{field_offset, field_of, width_asked}
 use Rattle.rules.proofs.Truth.{of≤, of>, to≡, no≡, above_0, cases}
 use Rattle.reading.proofs.CallLaws.{inside, room, empty_offset, some_offset}
 use Rattle.kinds.specs.declared.Fault.{Fault}
-use Rattle.kinds.specs.declared.Checked.{Checked}
-use Rattle.padding.specs.declared.Padded.{Padded}
-use Rattle.answers.specs.Answers.{answered, touched, fault_words, checked_words, padded_words, field_words}
+use Rattle.answers.specs.Answers.{answered, touched, fault_words, fault_in, counts_in, lines_in, checked_words, padded_words, field_words}
 
 -- ---- too short an answer, and one that is long enough
 module _ {A : Type 0} (n : ℕ) (old : List A) where
@@ -34,7 +34,7 @@ module _ {A : Type 0} (n : ℕ) (old : List A) where
   long_touched h u after before e = e ∙ rw (of≤ h)
 
 -- ---- form and rewrite
-pub checked_answer : (old : List ℕ) → 17 ≤ length old → (v w : Checked) → v ≡ w → (u : List ℕ) → u ≡ checked_words v → u ++ drop 17 old ≡ answered 17 (checked_words w) old
+pub checked_answer : (old : List ℕ) → 17 ≤ length old → (v w : Result (List ℕ) Fault) → v ≡ w → (u : List ℕ) → u ≡ checked_words v → u ++ drop 17 old ≡ answered 17 (checked_words w) old
 checked_answer old h v w e u q = long_answer 17 old h u (checked_words w) (q ∙ ap checked_words e)
 
 three-words : (old : List ℕ) (a b c : ℕ) → length old ≡ 3 → set (set (set old 0 a) 1 b) 2 c ≡ a ∷ b ∷ c ∷ []
@@ -48,18 +48,43 @@ pub fault_words_lem : (old : List ℕ) (f : Fault) → length old ≡ 3 → set 
 unfolding fault_words
 fault_words_lem old f h = three-words old _ _ _ h
 
-pub checked_words_lem : (old xs ys : List ℕ) (v : Checked) → length old ≡ 17 → xs ≡ fault_words v.fault → ys ≡ v.counts → length v.counts ≡ 14 → put_mid 3 14 (put_mid 0 3 old xs) ys ≡ checked_words v
-unfolding checked_words fault_words
-checked_words_lem old xs ys v h p q k = rw (p, q, drop-drop 14 3 old, drop_of_length-le old {i = 17} (omega arith), append-nil {A = ℕ})
+pub told_good : {T : Type 0} {v : Result T Fault} {x : T} → v ≡ Ok x → {g : Fault} → g ≡ record { number = 0; «record» = 0; column = 0 } → g ≡ fault_in v
+unfolding fault_in
+told_good e z = rw (e, z)
 
-pub padded-words : (old xs : List ℕ) (v : Padded) → length old ≡ 4 → xs ≡ fault_words v.fault → set (put_mid 0 3 old xs) 3 v.lines ≡ padded_words v
+pub told_bad : {T : Type 0} {v : Result T Fault} (g : Fault) → v ≡ Err g → g ≡ fault_in v
+unfolding fault_in
+told_bad g e = rw e
+
+counts_is : (v : Result (List ℕ) Fault) → result_unwrap_or v (replicate 14 0) ≡ counts_in v
+unfolding counts_in
+counts_is (Ok cs) = refl
+counts_is (Err g) = refl
+
+lines_is : (v : Result ℕ Fault) → result_unwrap_or v 0 ≡ lines_in v
+unfolding lines_in
+lines_is (Ok n) = refl
+lines_is (Err g) = refl
+
+pub counts_fourteen : (v : Result (List ℕ) Fault) → length (counts_in v) ≡ 14 → (cs : List ℕ) → cs ≡ result_unwrap_or v (replicate 14 0) → length cs ≡ 14
+counts_fourteen v h cs e = ap length (e ∙ counts_is v) ∙ h
+
+pub checked_words_lem : (old xs ys : List ℕ) (v : Result (List ℕ) Fault) → length old ≡ 17 → (g : Fault) → g ≡ fault_in v → xs ≡ fault_words g → (cs : List ℕ) → cs ≡ result_unwrap_or v (replicate 14 0) → ys ≡ cs
+    → length (counts_in v) ≡ 14 → put_mid 3 14 (put_mid 0 3 old xs) ys ≡ checked_words v
+unfolding checked_words fault_words
+checked_words_lem old xs ys v h g z p cs y q k =
+    let last : drop 14 (drop 3 old) ≡ [] = drop-drop 14 3 old ∙ drop_of_length-le old {i = 17} (omega arith) in
+    let all : ys ≡ counts_in v = q ∙ y ∙ counts_is v in
+    rw (p, z, all, last, append-nil {A = ℕ})
+
+pub padded-words : (old xs : List ℕ) (v : Result ℕ Fault) → length old ≡ 4 → (g : Fault) → g ≡ fault_in v → xs ≡ fault_words g → (n : ℕ) → n ≡ result_unwrap_or v 0 → set (put_mid 0 3 old xs) 3 n ≡ padded_words v
 unfolding padded_words fault_words
-padded-words [] xs v h p = absurd (omega arith)
-padded-words (a ∷ []) xs v h p = absurd (omega arith)
-padded-words (a ∷ b ∷ []) xs v h p = absurd (omega arith)
-padded-words (a ∷ b ∷ c ∷ []) xs v h p = absurd (omega arith)
-padded-words (a ∷ b ∷ c ∷ d ∷ []) xs v h p = rw p
-padded-words (a ∷ b ∷ c ∷ d ∷ e ∷ old) xs v h p = absurd (omega arith)
+padded-words [] xs v h g z p n q = absurd (omega arith)
+padded-words (a ∷ []) xs v h g z p n q = absurd (omega arith)
+padded-words (a ∷ b ∷ []) xs v h g z p n q = absurd (omega arith)
+padded-words (a ∷ b ∷ c ∷ []) xs v h g z p n q = absurd (omega arith)
+padded-words (a ∷ b ∷ c ∷ d ∷ []) xs v h g z p n q = rw (p, z, q, lines_is v)
+padded-words (a ∷ b ∷ c ∷ d ∷ e ∷ old) xs v h g z p n q = absurd (omega arith)
 
 -- ---- field
 field_width_lem : (f : List ℕ) (r c : ℕ) → length (field_of f r c) ≡ width_asked f r c

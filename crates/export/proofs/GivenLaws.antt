@@ -46,14 +46,13 @@ use Rattle.kinds.specs.declared.Fault.{Fault}
 use Rattle.kinds.specs.declared.Record.{Record}
 use Rattle.kinds.specs.declared.Record.TheVariants as R
 use Rattle.kinds.specs.Values.{kind_number, meaning_of, written_of}
-use Rattle.answers.specs.Answers.{Small, fault_words, answered, touched}
-use Rattle.answers.specs.Given.{word_at, held_or, number_of, character_of, digit_of, signed_of, is_least, height_of, sequence_of, character_at, number_at, two_at, three_at, four_at, media_at, project_given, occupation_given, measurement_given, point_given, heights_given, network_given, local_given, records_given, record_given, given, sequence_given, written_words, Noted}
+use Rattle.answers.specs.Answers.{Small, fault_words, fault_in, answered, touched}
+use Rattle.answers.specs.Given.{word_at, held_or, digit_of, signed_of, is_least, height_of, sequence_of, character_at, number_at, two_at, three_at, four_at, media_at, project_given, occupation_given, measurement_given, point_given, heights_given, network_given, local_given, records_given, record_given, given, sequence_given, written_words, number_of, character_of}
 use Rattle.export.proofs.AnswerLaws.{long_answer, long_touched}
 use lib.Dec.{eqb}
 use Rattle.columns.proofs.Signed.{widened}
 use Rattle.std.specs.Prelude.{Result, Ok, Err, Option, Some, None}
 use Rattle.columns.specs.Types.{count_value}
-use Rattle.std.specs.Prelude.{Option, Some, None}
 use Rattle.columns.specs.declared.Height.{Height}
 
 -- ---- one word
@@ -248,27 +247,13 @@ module _ (k : ℕ) (ws : List ℤ) where
   given_none h r e = ap R.Job e ∙ sym (get_or_past (records_given ws) k (R.Job record { first = 0; second = 0 }) h)
 
 -- ---- the answer
-pub noted_small : (w : Result (Unit {0}) Fault) (f : Fault) → Noted w → w ≡ Err f → Small f
-noted_small w f t e = t.small f e
+noted_of : (v : Verdict) → ((n c : ℕ) → v ≡ fault n c → c ≤ 80) → Small (fault_in (written_of v))
+unfolding written_of fault_in
+noted_of ok h = record { place = omega arith; spot = omega arith }
+noted_of (fault n c) h = record { place = omega arith; spot = omega (arith, h n c refl) }
 
-noted_of : (v : Verdict) → ((n c : ℕ) → v ≡ fault n c → c ≤ 80) → (f : Fault) → written_of v ≡ Err f → Small f
-unfolding written_of
-noted_of ok h f e = let y : ◌≡◌ {A = ℕ} 0 1 = cc in absurd (omega arith)
-noted_of (fault n c) h f e =
-    let x : 0 ≡ f.«record» = cc in
-    let y : c ≡ f.column = cc in
-    record { place = omega arith; spot = omega (arith, h n c refl) }
-
-pub written_noted : (w : Result (Unit {0}) Fault) (room k : ℕ) (q : Value) (m : Meaning) → w ≡ written_of (write_verdict room k q m) → Noted w
-written_noted w room k q m e = record { small = λ f z. noted_of (write_verdict room k q m) (λ n c y. omega (arith, write_bounds room k q m n c y)) f (sym e ∙ z) }
-
-pub done_words : (w : Result (Unit {0}) Fault) (u : List ℕ) → w ≡ Ok tt → {g : Fault} → g ≡ record { number = 0; «record» = 0; column = 0 } → u ≡ fault_words g → u ≡ written_words w
-unfolding written_words fault_words
-done_words w u e z q = q ∙ rw (z, e)
-
-pub refused-words : (w : Result (Unit {0}) Fault) (f : Fault) (u : List ℕ) → w ≡ Err f → u ≡ fault_words f → u ≡ written_words w
-unfolding written_words
-refused-words w f u e q = q ∙ rw e
+pub written_noted : (w : Result (Unit {0}) Fault) (room k : ℕ) (q : Value) (m : Meaning) → w ≡ written_of (write_verdict room k q m) → Small (fault_in w)
+written_noted w room k q m e = rw e (noted_of (write_verdict room k q m) (λ n c y. omega (arith, write_bounds room k q m n c y)))
 
 module _ (ws : List ℤ) (a b c old : List ℕ) (r : Record) (s : Option ℕ) (h : 3 ≤ length old) (p : s ≡ sequence_given ws) (q : r ≡ given ws) where
   pub write_answer : (room : ℕ) (v : Result (Unit {0}) Fault) (u : List ℕ) → v ≡ written_of (write_verdict room (kind_number r) (count_value s) (meaning_of r a b c)) → u ≡ written_words v

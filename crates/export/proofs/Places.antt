@@ -7,7 +7,7 @@ use native.Mathlib.Omega.{arith}
 use lib.Dec.{lit≤}
 use lib.IntN.{pos, negsuc}
 use lib.ListN.{length, get_or}
-use Rattle.rules.specs.Tests.{◌&◌, ◌≤?◌, within, all}
+use Rattle.rules.specs.Tests.{◌&◌, ◌≤?◌, ◌=?◌, within, all}
 use Rattle.rules.specs.Items.{Value, gap, missing, num, text, label, fits, on_number}
 use Rattle.rules.specs.Fields.{Field, Verdict, ok, fault, is_ok, given, entries_of, is_formed, formed}
 use Rattle.rules.specs.Kinds.{kind_of, known}
@@ -17,7 +17,7 @@ use Rattle.rules.specs.Files as files
 use Rattle.rules.specs.Files.{accept, refuse, is_accept, line_at, begun, meanings, form_verdict}
 use Rattle.rules.specs.References.{tally, counts}
 use Rattle.rules.specs.Chapter4.{chapter4}
-use Rattle.rules.specs.Calls.{outcome, answer, big_table, form_answer, references_outcome, references_answer, rewrite_room, rewrite_answer, Reading, values, unread, read_as, read_of}
+use Rattle.rules.specs.Calls.{outcome, Answer, answer, big_table, form_answer, references_outcome, references_answer, rewrite_room, rewrite_answer, Reading, values, unread, read_as, read_of}
 use Rattle.rules.specs.Padding.{pad_answer, pad_output}
 use Rattle.rules.specs.Pulling.{pull_answer, pull_output, pull_faults}
 use Rattle.rules.proofs.Truth.{both, and, to≤, of≤, to≡, cases, to_within}
@@ -25,20 +25,17 @@ use Rattle.rules.proofs.RecordLaws.{read_line_splits, line_meant}
 use Rattle.rules.proofs.ReferenceLaws.{length-tabulate}
 use Rattle.rules.proofs.Bounds.{Bounded, answer_bounded, form_bounded, reference_refused, unread_bounds}
 use Rattle.std.specs.Prelude.{Result, Ok, Err, Option}
-use Rattle.kinds.specs.declared.Checked.{Checked}
 use Rattle.kinds.specs.declared.Fault.{Fault}
 use Rattle.columns.specs.Types.{nat_of}
 use Rattle.kinds.specs.declared.Record.{Record}
 use Rattle.kinds.proofs.ValueLaws.{same_values}
 use Rattle.kinds.specs.Values.{checked_of, fault_of, record_from, record_of, reading_of}
 use Rattle.kinds.proofs.TableLaws.{each_kind}
-use Rattle.padding.specs.declared.Padded.{Padded}
 use Rattle.padding.specs.Promise.{padded_of}
 use Rattle.padding.proofs.PadDemands.{demand_1_pad}
-use Rattle.pulling.specs.declared.Pulled.{Pulled}
 use Rattle.pulling.specs.Promise.{pulled_of}
 use Rattle.pulling.proofs.PullDemands.{demand_1_pull}
-use Rattle.answers.specs.Answers.{Small, Counted}
+use Rattle.answers.specs.Answers.{Small, fault_in, counts_in, Counted}
 use Rattle.answers.specs.Words.{deviations_of, in_range, Told}
 
 -- ---- form, references and rewrite
@@ -47,25 +44,35 @@ unfolding answer
 fourteen accept ms = unfold counts in length-tabulate (λ k. tally k ms) 14 0
 fourteen (refuse n r c) ms = refl
 
+zero_small : Small record { number = 0; «record» = 0; column = 0 }
+zero_small = record { place = omega arith; spot = omega arith }
+
+fault_told : (a : Answer) → a.place < 2 ^ 32 → a.column < 2 ^ 32 → Small (fault_in (checked_of a))
+unfolding checked_of fault_in
+fault_told a h k = cases (a.number =? 0) (λ e. rw e zero_small) (λ e. rw e record { place = h; spot = k })
+
+counts_told : (a : Answer) → length a.counts ≡ 14 → length (counts_in (checked_of a)) ≡ 14
+unfolding checked_of counts_in
+counts_told a h = cases (a.number =? 0) (λ e. rw e h) (λ e. rw e)
+
 counted : (x : files.Result) (ms : List Meaning) → Bounded (answer x ms) → Counted (checked_of (answer x ms))
-unfolding checked_of
 counted x ms within = record {
-  small = record { place = omega (arith, within.place); spot = omega (arith, within.column) };
-  fourteen = fourteen x ms;
+  small = fault_told (answer x ms) (omega (arith, within.place)) (omega (arith, within.column));
+  fourteen = counts_told (answer x ms) (fourteen x ms);
 }
 
-pub form_counted : (f : List ℕ) (v : Checked) → v ≡ checked_of (form_answer f) → Counted v
+pub form_counted : (f : List ℕ) (v : Result (List ℕ) Fault) → v ≡ checked_of (form_answer f) → Counted v
 unfolding form_answer
 form_counted f v e = rw e (counted (form_verdict chapter4 f) (meanings chapter4 f) (form_bounded f (meanings chapter4 f)))
 
-pub rewrite_counted : (f t o : List ℕ) (v : Checked) → v ≡ checked_of (rewrite_answer f t o) → Counted v
+pub rewrite_counted : (f t o : List ℕ) (v : Result (List ℕ) Fault) → v ≡ checked_of (rewrite_answer f t o) → Counted v
 unfolding rewrite_answer
 rewrite_counted f t o v e =
     let enough = rewrite_room f t o in rw e (counted (outcome enough f) (meanings chapter4 f) (answer_bounded enough f (meanings chapter4 f)))
 
-small_of : (x : files.Result) → ((n r c : ℕ) → x ≡ refuse n r c → (r ≤ 100_000) × (c ≤ 81)) → Small (fault_of x)
-unfolding fault_of
-small_of accept h = record { place = omega arith; spot = omega arith }
+small_of : (x : files.Result) → ((n r c : ℕ) → x ≡ refuse n r c → (r ≤ 100_000) × (c ≤ 81)) → Small (fault_in (fault_of x))
+unfolding fault_of fault_in
+small_of accept h = zero_small
 small_of (refuse n r c) h = let k = h n r c refl in record { place = omega (arith, k.0); spot = omega (arith, k.1) }
 
 references_within : (enough : Bool) (f : List ℕ) (n r c : ℕ) → references_outcome enough f ≡ refuse n r c → (r ≤ 100_000) × (c ≤ 81)
@@ -85,18 +92,24 @@ references_within false f n r c e =
     let y : 0 ≡ c = cc in
     (omega arith, omega arith)
 
-pub references_small : (f t : List ℕ) (w : Fault) → w ≡ fault_of (references_answer f t) → Small w
+pub references_small : (f t : List ℕ) (w : Result (Unit {0}) Fault) → w ≡ fault_of (references_answer f t) → Small (fault_in w)
 unfolding references_answer
 references_small f t w e = rw e (small_of (references_outcome (big_table t) f) (references_within (big_table t) f))
 
 -- ---- pad
-pub pad_small : (f o : List ℕ) (v : Padded) → v ≡ padded_of (pad_answer f o) → Small v.fault
-pad_small f o v e = let k = demand_1_pad f o v (pad_output f o) record { answered = e; written = refl } in record { place = omega (arith, k.place); spot = omega (arith, k.spot) }
+pub pad_small : (f o : List ℕ) (v : Result ℕ Fault) → v ≡ padded_of (pad_answer f o) → Small (fault_in v)
+unfolding fault_in
+pad_small f o (Ok n) e = zero_small
+pad_small f o (Err g) e =
+    let k = demand_1_pad f o (Err g) (pad_output f o) record { answered = e; written = refl } in
+    record { place = omega (arith, k.place g refl); spot = omega (arith, k.spot g refl) }
 
 -- ---- pull
-pub pull_small : (rs o s : List ℕ) (v : Pulled) → v ≡ pulled_of (pull_answer rs o s) → Small v.fault
-pull_small rs o s v e =
-    let k = (demand_1_pull [] rs o s v (pull_output [] rs o s) (pull_faults [] rs o s) record { answered = e; written = refl; numbered = refl }).place in
+pub pull_small : (rs o s : List ℕ) (v : Result (Unit {0}) Fault) → v ≡ pulled_of (pull_answer rs o s) → Small (fault_in v)
+unfolding fault_in
+pull_small rs o s (Ok x) e = zero_small
+pull_small rs o s (Err g) e =
+    let k = (demand_1_pull [] rs o s (Err g) (pull_output [] rs o s) (pull_faults [] rs o s) record { answered = e; written = refl; numbered = refl }).place g refl in
     record { place = omega (arith, k.0); spot = omega (arith, k.1) }
 
 -- ---- read

@@ -10,13 +10,10 @@ use Rattle.rules.specs.Pulling.{pull_answer, pull_output, pull_faults}
 use Rattle.std.specs.Prelude.{Result, Option}
 use Rattle.kinds.specs.declared.Record.{Record}
 use Rattle.kinds.specs.declared.Fault.{Fault}
-use Rattle.kinds.specs.declared.Checked.{Checked}
 use Rattle.kinds.specs.Values.{kind_number, meaning_of, checked_of, fault_of, reading_of, written_of}
-use Rattle.padding.specs.declared.Padded.{Padded}
 use Rattle.padding.specs.Promise.{padded_of}
-use Rattle.pulling.specs.declared.Pulled.{Pulled}
 use Rattle.pulling.specs.Promise.{pulled_of}
-use Rattle.answers.specs.Answers.{touched, fault_words, checked_words, padded_words}
+use Rattle.answers.specs.Answers.{touched, fault_words, fault_in, checked_words, padded_words}
 use Rattle.answers.specs.Words.{read_words}
 use Rattle.answers.specs.Given.{given, sequence_given, written_words}
 use Rattle.answers.specs.Promise.{Forms, Refers, Rewrites, Pads, Pulls, Reads, Finds, words_verdict, words_output, Writes}
@@ -52,27 +49,27 @@ pub short_read : (a : List ℤ) → length a < 32 → (f : List ℕ) (r : ℕ) �
 short_read a h f r = record { answer = short_answer 32 a h _ }
 
 -- ---- one that is long enough, by what the inner call promises
-pub long_form : (f a : List ℕ) → 17 ≤ length a → (v : Checked) → v ≡ checked_of (form_answer f) → (w : List ℕ) → w ≡ checked_words v → Forms f a (w ++ drop 17 a)
+pub long_form : (f a : List ℕ) → 17 ≤ length a → (v : Result (List ℕ) Fault) → v ≡ checked_of (form_answer f) → (w : List ℕ) → w ≡ checked_words v → Forms f a (w ++ drop 17 a)
 long_form f a h v p w e = record { answer = checked_answer a h v _ p w e }
 
-pub long_references : (f t a : List ℕ) → 3 ≤ length a → (v : Fault) → v ≡ fault_of (references_answer f t) → (u : List ℕ) → u ≡ references_table f t
-    → (w : List ℕ) → w ≡ fault_words v → Refers f t a u (w ++ drop 3 a)
-long_references f t a h v p u q w e =
-    let same : u ≡ touched 3 a (references_table f t) t = long_touched 3 a h u _ t q in record { answer = long_answer 3 a h w _ (e ∙ ap fault_words p); table = cc }
+pub long_references : (f t a : List ℕ) → 3 ≤ length a → (v : Result (Unit {0}) Fault) → v ≡ fault_of (references_answer f t) → (u : List ℕ) → u ≡ references_table f t
+    → {g : Fault} → g ≡ fault_in v → (w : List ℕ) → w ≡ fault_words g → Refers f t a u (w ++ drop 3 a)
+long_references f t a h v p u q z w e =
+    let same : u ≡ touched 3 a (references_table f t) t = long_touched 3 a h u _ t q in record { answer = long_answer 3 a h w _ (e ∙ ap fault_words (z ∙ ap fault_in p)); table = cc }
 
-pub long_rewrite : (f t o a : List ℕ) → 17 ≤ length a → (v : Checked) → v ≡ checked_of (rewrite_answer f t o) → (u : List ℕ) → u ≡ rewrite_table f t o
+pub long_rewrite : (f t o a : List ℕ) → 17 ≤ length a → (v : Result (List ℕ) Fault) → v ≡ checked_of (rewrite_answer f t o) → (u : List ℕ) → u ≡ rewrite_table f t o
     → (p : List ℕ) → p ≡ rewrite_output f t o → (w : List ℕ) → w ≡ checked_words v → Rewrites f t o a u p (w ++ drop 17 a)
 long_rewrite f t o a h v x u y p z w e = record { answer = checked_answer a h v _ x w e; table = long_touched 17 a h u _ t y; out = long_touched 17 a h p _ o z }
 
-pub long_pad : (f o a : List ℕ) → 4 ≤ length a → (v : Padded) → v ≡ padded_of (pad_answer f o) → (p : List ℕ) → p ≡ pad_output f o
+pub long_pad : (f o a : List ℕ) → 4 ≤ length a → (v : Result ℕ Fault) → v ≡ padded_of (pad_answer f o) → (p : List ℕ) → p ≡ pad_output f o
     → (w : List ℕ) → w ≡ padded_words v → Pads f o a p (w ++ drop 4 a)
 long_pad f o a h v x p y w e = record { answer = long_answer 4 a h w _ (e ∙ ap padded_words x); out = long_touched 4 a h p _ o y }
 
-pub long_pull : (f rs o s a : List ℕ) → 3 ≤ length a → (v : Pulled) → v ≡ pulled_of (pull_answer rs o s) → (p : List ℕ) → p ≡ pull_output f rs o s
-    → (q : List ℕ) → q ≡ pull_faults f rs o s → (w : List ℕ) → w ≡ fault_words v.fault → Pulls f rs o s a p q (w ++ drop 3 a)
+pub long_pull : (f rs o s a : List ℕ) → 3 ≤ length a → (v : Result (Unit {0}) Fault) → v ≡ pulled_of (pull_answer rs o s) → (p : List ℕ) → p ≡ pull_output f rs o s
+    → (q : List ℕ) → q ≡ pull_faults f rs o s → {g : Fault} → g ≡ fault_in v → (w : List ℕ) → w ≡ fault_words g → Pulls f rs o s a p q (w ++ drop 3 a)
 unfolding pulled_of
-long_pull f rs o s a h v x p y q z w e =
-    record { answer = long_answer 3 a h w _ (e ∙ ap (λ (u : Pulled). fault_words u.fault) x); out = long_touched 3 a h p _ o y; faults = long_touched 3 a h q _ s z }
+long_pull f rs o s a h v x p y q z k w e =
+    record { answer = long_answer 3 a h w _ (e ∙ ap fault_words (k ∙ ap fault_in x)); out = long_touched 3 a h p _ o y; faults = long_touched 3 a h q _ s z }
 
 pub long_read : (f : List ℕ) (r : ℕ) (a : List ℤ) → 32 ≤ length a → (v : Result (Option ℕ × Record) Fault) → v ≡ reading_of (read_of f r) → (w : List ℤ) → w ≡ read_words v → Reads f r a (w ++ drop 32 a)
 long_read f r a h v p w e = record { answer = read_answer a h v _ p w e }
@@ -87,8 +84,8 @@ module _ (f : List ℕ) (r c : ℕ) (a : List ℕ) (h : 2 ≤ length a) (p : Lis
 pub long_write : (o : List ℕ) (ws : List ℤ) (x y z a : List ℕ) → 3 ≤ length a → (s : Option ℕ) → s ≡ sequence_given ws → (r : Record) → r ≡ given ws
     → (v : Result (Unit {0}) Fault) → v ≡ written_of (write_verdict (length o) (kind_number r) (count_value s) (meaning_of r x y z))
     → (p : List ℕ) → p ≡ write_output (kind_number r) (count_value s) (meaning_of r x y z) o
-    → (w : List ℕ) → w ≡ written_words v → Writes o ws x y z a p (w ++ drop 3 a)
+    → {g : Fault} → g ≡ fault_in v → (w : List ℕ) → w ≡ fault_words g → Writes o ws x y z a p (w ++ drop 3 a)
 unfolding words_verdict words_output
-long_write o ws x y z a h s i r j v k p l w e =
+long_write o ws x y z a h s i r j v k p l q w e =
     let same : p ≡ touched 3 a (words_output ws x y z o) o = write_left ws x y z a r s h i j o p l in
-    record { answer = write_answer ws x y z a r s h i j (length o) v w k e; out = cc }
+    record { answer = write_answer ws x y z a r s h i j (length o) v w k (e ∙ (unfold written_words in ap fault_words q)); out = cc }

@@ -23,7 +23,7 @@ use Rattle.kinds.specs.declared.Record.TheVariants as R
 use Rattle.kinds.specs.Values.{two_text, three_text, kind_number, code_of, values_of, meaning_of, written_of}
 use Rattle.kinds.proofs.ValueLaws.{code_kind}
 use Rattle.kinds.proofs.TableLaws.{each_kind}
-use Rattle.answers.specs.Answers.{answered, touched, fault_words}
+use Rattle.answers.specs.Answers.{answered, touched, fault_words, fault_in}
 use Rattle.answers.specs.Given.{word_at, held_or, signed_of, is_least, height_of, sequence_of, character_at, number_at, two_at, three_at, four_at, media_at, project_given, occupation_given, measurement_given, point_given, heights_given, network_given, local_given, records_given, record_given, written_words}
 use Rattle.answers.specs.Given as words
 use Rattle.answers.specs.Held.{word_count, no_field, word_from, is_held, holds_number, holds_sequence, holds_signed, holds_characters, holds, left_of_code, left_of_field}
@@ -335,7 +335,7 @@ module _ (o : List ℕ) (ws : List ℤ) (x y z a p b : List ℕ) (w : Writes o w
   pub answers_9 : (c : ℕ) (left : Verdict) → words_verdict (length o) ws x y z ≡ left ⨾ fault 9 c → left ≡ ok → (b ≡ 9 ∷ 0 ∷ c ∷ drop 3 a) × (p ≡ o)
   answers_9 c left e fine =
       let v : words_verdict (length o) ws x y z ≡ fault 9 c = e ∙ rw fine (unfold ◌⨾◌ in refl) in
-      let told-so : answered 3 (written_words (written_of (fault 9 c))) a ≡ 9 ∷ 0 ∷ c ∷ drop 3 a = unfold answered written_words written_of fault_words in rw (of≤ long) in
+      let told-so : answered 3 (written_words (written_of (fault 9 c))) a ≡ 9 ∷ 0 ∷ c ∷ drop 3 a = unfold answered written_words written_of fault_words fault_in in rw (of≤ long) in
       let stays : words_output ws x y z o ≡ o = refused_stays o ws x y z 9 c v in
       let same : touched 3 a (words_output ws x y z o) o ≡ words_output ws x y z o = unfold touched in rw (of≤ long) in
       (w.answer ∙ rw v told-so, w.out ∙ same ∙ stays)

@@ -1,10 +1,8 @@
 // A fault, counts and a number of lines as words.
 ghost use Rattle.std.specs.Prelude.{◌≡◌, length};
-ghost use Rattle.answers.specs.Answers.{Small, Counted, fault_words, checked_words, padded_words};
-ghost use Rattle.answers.specs.Given.{written_words, Noted};
+ghost use Rattle.answers.specs.Answers.{Small, Counted, fault_words, fault_in, checked_words, padded_words};
 
-use kinds::{Checked, Fault};
-use padding::Padded;
+use kinds::Fault;
 
 // number, record, column.
 pub(crate) fn put_fault(out: &mut [u32], f: Fault)
@@ -24,31 +22,30 @@ fn put_counts(out: &mut [u32], counts: &[u32; 14])
     out.copy_from_slice(counts);
 }
 
-pub(crate) fn put_checked(out: &mut [u32], v: Checked)
+// What the first three words say of an answer: C has the number 0 for acceptance.
+pub(crate) fn fault_in<T: Copy>(answer: Result<T, Fault>) -> Fault
+    ensures { result ≡ fault_in answer }
+{
+    match answer {
+        Ok(_) => Fault::new(0, 0, 0),
+        Err(fault) => fault,
+    }
+}
+
+// The counts of a refusal are zeros for C.
+pub(crate) fn put_checked(out: &mut [u32], v: Result<[u32; 14], Fault>)
     requires { (length out.old ≡ 17) × Counted v }
     ensures { out.new ≡ checked_words v }
 {
-    let fault = v.fault;
-    let counts = v.counts;
-    put_fault(&mut out[0..3], fault);
+    let counts = v.unwrap_or([0; 14]);
+    put_fault(&mut out[0..3], fault_in(v));
     put_counts(&mut out[3..17], &counts);
 }
 
-pub(crate) fn put_padded(out: &mut [u32], v: Padded)
-    requires { (length out.old ≡ 4) × Small v.fault }
+pub(crate) fn put_padded(out: &mut [u32], v: Result<u32, Fault>)
+    requires { (length out.old ≡ 4) × Small (fault_in v) }
     ensures { out.new ≡ padded_words v }
 {
-    let fault = v.fault;
-    put_fault(&mut out[0..3], fault);
-    out[3] = v.lines;
-}
-
-pub(crate) fn put_written(out: &mut [u32], w: Result<(), Fault>)
-    requires { (length out.old ≡ 3) × Noted w }
-    ensures { out.new ≡ written_words w }
-{
-    match w {
-        Ok(()) => put_fault(out, Fault::new(0, 0, 0)),
-        Err(f) => put_fault(out, f),
-    }
+    put_fault(&mut out[0..3], fault_in(v));
+    out[3] = v.unwrap_or(0);
 }

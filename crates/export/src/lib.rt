@@ -8,7 +8,7 @@ mod words;
 
 ghost use Rattle.answers.specs.Promise.{Forms, Refers, Rewrites, Pads, Pulls, Reads, Finds, Writes};
 
-use crate::counts::{put_checked, put_fault, put_padded, put_written};
+use crate::counts::{fault_in, put_checked, put_fault, put_padded};
 use crate::given::{give_record, give_sequence};
 use crate::readings::put_reading;
 use padding::pad;
@@ -39,7 +39,7 @@ pub extern "C" fn shelf_references(file: &[u8], table: &mut [u32], answer: &mut 
         return;
     }
     let w = references(file, table);
-    put_fault(&mut answer[0..3], w);
+    put_fault(&mut answer[0..3], fault_in(w));
 }
 
 // number, record, column, and the fourteen counts.
@@ -81,8 +81,7 @@ pub extern "C" fn shelf_pull(
         return;
     }
     let v = pull(file, records, out, faults);
-    let fault = v.fault;
-    put_fault(&mut answer[0..3], fault);
+    put_fault(&mut answer[0..3], fault_in(v));
 }
 
 // Where a field starts in the file, and its width.
@@ -141,5 +140,5 @@ pub extern "C" fn shelf_write(
         second,
         third,
     );
-    put_written(&mut answer[0..3], w);
+    put_fault(&mut answer[0..3], fault_in(w));
 }

@@ -13,7 +13,7 @@ pub(crate) fn rewrite_file(
     let mut space = [0u8; 65536];
     let n = read_file(rt, path, &mut space)?;
     let mut table = [0u32; 12000];
-    rewriting::rewrite(&space[..n], &mut table, out);
+    let _ = rewriting::rewrite(&space[..n], &mut table, out);
     Ok(())
 }
 

@@ -1,6 +1,6 @@
 // The shortest table and output that do, and one word or one byte less, which is fault 1 and touches nothing.
 use crate::lent::{BYTE, WORD, show_kept};
-use crate::print::{show_checked, show_fault};
+use crate::print::{show_answer, show_checked};
 use inputs::read_file;
 use std::io;
 use std::rt::Files;
@@ -32,8 +32,7 @@ fn try_output(rt: &impl Print, file: &[u8], table: &mut [u32], n: usize) -> io::
 fn short_table(rt: &impl Print, file: &[u8]) -> io::Result<()> {
     let mut table = [WORD; 11999];
     print!(rt; "a table of 11999 words\nreferences ")?;
-    let fault = walk::references(file, &mut table);
-    show_fault(rt, fault)?;
+    show_answer(rt, walk::references(file, &mut table))?;
     show_table(rt, &table)?;
     try_output(rt, file, &mut table, file.len())
 }

@@ -2,9 +2,9 @@
 use crate::compare::count_differing;
 use crate::dress::rewrite_file;
 use crate::lent::{BYTE, WORD, show_changed_bytes};
-use crate::print::{show_checked, show_fault};
+use crate::print::{show_answer, show_checked};
 use inputs::read_file;
-use padding::Padded;
+use kinds::Fault;
 use std::io;
 use std::rt::Files;
 
@@ -39,8 +39,7 @@ fn show_part(rt: &impl Print, part: &[u8]) -> io::Result<()> {
     show_checked(rt, walk::form(part))?;
     let mut table = [WORD; 12000];
     print!(rt; "references ")?;
-    let fault = walk::references(part, &mut table);
-    show_fault(rt, fault)
+    show_answer(rt, walk::references(part, &mut table))
 }
 
 // The lines are the first bytes of the output.
@@ -51,19 +50,19 @@ fn show_padded(rt: &impl Print, lines: u32, out: &[u8]) -> io::Result<()> {
     }
 }
 
-fn show_answer(rt: &impl Print, p: Padded) -> io::Result<()> {
+fn show_pad(rt: &impl Print, answer: Result<u32, Fault>) -> io::Result<()> {
     print!(rt; "pad ")?;
-    show_fault(rt, p.fault)?;
-    println!(rt; "lines {}", p.lines)
+    show_answer(rt, answer)?;
+    println!(rt; "lines {}", answer.unwrap_or(0))
 }
 
 fn try_pad(rt: &impl Print, input: &[u8], out: &mut [u8]) -> io::Result<()> {
-    let p = padding::pad(input, out);
-    show_answer(rt, p)?;
+    let answer = padding::pad(input, out);
+    show_pad(rt, answer)?;
     print!(rt; "bytes of the output: ")?;
     show_changed_bytes(rt, out)?;
-    if p.fault.number == 0 {
-        show_padded(rt, p.lines, out)?;
+    if let Ok(lines) = answer {
+        show_padded(rt, lines, out)?;
     }
     println!(rt)
 }

@@ -2,7 +2,8 @@
 use crate::dress::rewrite_file;
 use crate::lent::{BYTE, WORD, show_changed_bytes};
 use crate::padded::{show_differing, show_lines};
-use crate::print::{show_fault, show_numbers};
+use crate::print::{show_answer, show_numbers};
+use kinds::Fault;
 use inputs::read_file;
 use reading::lines::count_begun;
 use std::io;
@@ -16,8 +17,8 @@ const PLACES: usize = 65;
 const ROOM: usize = 5265;
 
 // Of a refused call nothing is to be seen but what was lent.
-fn show_pulled(rt: &impl Print, number: u32, entries: usize, out: &[u8]) -> io::Result<()> {
-    if number == 0 && entries <= MOST {
+fn show_pulled(rt: &impl Print, answer: Result<(), Fault>, entries: usize, out: &[u8]) -> io::Result<()> {
+    if answer.is_ok() && entries <= MOST {
         show_lines(rt, &out[..out.len().min(81 * entries)])?;
     }
     Ok(())
@@ -30,14 +31,14 @@ fn try_lent(
     out: &mut [u8],
     faults: &mut [u32],
 ) -> io::Result<()> {
-    let p = pulling::pull(file, records, out, faults);
+    let answer = pulling::pull(file, records, out, faults);
     print!(rt; "pull ")?;
-    show_fault(rt, p.fault)?;
+    show_answer(rt, answer)?;
     print!(rt; "fault list")?;
     show_numbers(rt, faults)?;
     print!(rt; "bytes of the output: ")?;
     show_changed_bytes(rt, out)?;
-    show_pulled(rt, p.fault.number, records.len(), out)?;
+    show_pulled(rt, answer, records.len(), out)?;
     println!(rt)
 }
 

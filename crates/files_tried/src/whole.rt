@@ -1,7 +1,7 @@
 // One file through form, references and rewrite, with a word more of table and a record more of output than they need.
 use crate::compare::count_differing;
 use crate::lent::{BYTE, WORD, show_kept};
-use crate::print::{show_checked, show_fault};
+use crate::print::{show_answer, show_checked};
 use crate::table::show_table;
 use kinds::Fault;
 use std::io;
@@ -41,8 +41,8 @@ fn show_written(rt: &impl Print, n: usize, out: &[u8]) -> io::Result<()> {
 }
 
 // A refusal leaves all of the output as it was.
-fn show_output(rt: &impl Print, fault: Fault, n: usize, out: &[u8]) -> io::Result<()> {
-    if fault.number == 0 {
+fn show_output(rt: &impl Print, answer: Result<[u32; 14], Fault>, n: usize, out: &[u8]) -> io::Result<()> {
+    if answer.is_ok() {
         show_written(rt, n, out)
     } else {
         print!(rt; "bytes of the output: ")?;
@@ -57,8 +57,7 @@ fn try_form(rt: &impl Print, file: &[u8]) -> io::Result<()> {
 
 fn try_references(rt: &impl Print, file: &[u8], table: &mut [u32; 12001]) -> io::Result<()> {
     print!(rt; "references ")?;
-    let fault = walk::references(file, table);
-    show_fault(rt, fault)?;
+    show_answer(rt, walk::references(file, table))?;
     show_table(rt, table)
 }
 
@@ -76,7 +75,7 @@ fn try_rewrite(
         "words other than after references: {}",
         count_differing(&table, before)
     )?;
-    show_output(rt, checked.fault, file.len(), out)
+    show_output(rt, checked, file.len(), out)
 }
 
 // The output has room for one record more than the file.

@@ -1,9 +1,10 @@
 -- A record made of values and texts is the record that its meaning gives back.
 use mathlib.Core.Path.{◌≡◌, refl, sym, ◌∙◌, ap}
+use mathlib.Core.Bool.{false≢true}
 use mathlib.Core.List.{List}
 use Prim.Native.Nat.{ℕ}
 use lib.ListN.{get_or}
-use Rattle.std.specs.Prelude.{Result, Ok, Err, IsErrAnd, MatchResult, Option, Some, None}
+use Rattle.std.specs.Prelude.{Result, Ok, Err, is_ok, IsOk, IsErrAnd, MatchResult, Option, Some, None}
 use Rattle.std.proofs.Common.{subst}
 use Rattle.std.proofs.lemmas.Result.{err_from_is_err_and}
 use Rattle.rules.specs.Tests.{◌&◌, ◌≤?◌, ◌=?◌, within}
@@ -32,6 +33,22 @@ flaw n c = record { number = n; column = c }
 -- what a `?` hands on
 pub handed_on : {T E : Type 0} {r : Result T E} {e : E} → IsErrAnd r (λ y. y ≡ e) → r ≡ Err e
 handed_on {r} h = let p = err_from_is_err_and r h in rw (p.1, p.2)
+
+-- a refusal is no acceptance
+pub not_ok : {T E : Type 0} {r : Result T E} {e : E} → r ≡ Err e → IsOk r → ⊥
+not_ok p q = false≢true (sym (ap is_ok p) ∙ q)
+
+pub ok_is : {T E : Type 0} {r : Result T E} {x : T} → r ≡ Ok x → IsOk r
+ok_is p = ap is_ok p
+
+pub same_fault : {T E : Type 0} {r : Result T E} {e d : E} → r ≡ Err e → r ≡ Err d → e ≡ d
+same_fault p q = cc
+
+pub same_ok : {T E : Type 0} {r : Result T E} {x y : T} → r ≡ Ok x → r ≡ Ok y → x ≡ y
+same_ok p q = cc
+
+pub ok_not_err : {T E : Type 0} {r : Result T E} {x : T} {e : E} → r ≡ Ok x → r ≡ Err e → ⊥
+ok_not_err p q = not_ok q (ok_is p)
 
 -- values that are told alike are the same
 pub same_values : {s q : Option ℕ} {w m : Record} → ◌≡◌ {A = Result (Option ℕ × Record) Fault} (Ok (s, w)) (Ok (q, m)) → (s ≡ q) × (w ≡ m)

@@ -1,5 +1,6 @@
 -- The code's types as 01's numbers and values: for each case of each enum the definition that the promises use.
-use Rattle.std.specs.Prelude.{List, [], ◌∷◌, ℕ, get_or, pos, negsuc, Result, Ok, Err, Option, Some, None}
+use Rattle.std.specs.Prelude.{cond, List, [], ◌∷◌, ℕ, get_or, pos, negsuc, Result, Ok, Err, Option, Some, None}
+use Rattle.rules.specs.Tests.{◌=?◌}
 use Rattle.rules.specs.Characters.{ascii}
 use Rattle.rules.specs.Items.{Value, gap, missing, num, text, label}
 use Rattle.rules.specs.Fields.{Verdict, ok, fault}
@@ -15,7 +16,6 @@ use Rattle.kinds.specs.declared.Three.{Three}
 use Rattle.kinds.specs.declared.Record.{Record}
 use Rattle.kinds.specs.declared.Record.TheVariants as R
 use Rattle.kinds.specs.declared.Fault.{Fault}
-use Rattle.kinds.specs.declared.Checked.{Checked}
 use Rattle.kinds.specs.declared.Flaw.{Flaw}
 use Rattle.kinds.specs.declared.Expect.{Expect}
 
@@ -148,13 +148,14 @@ unfoldable pub record_of : Meaning → Record
 record_of m = record_from (kind_of m.code) m.code (λ i. get_or m.values i gap)
 
 -- ---- answers
-unfoldable pub checked_of : calls.Answer → Checked
-checked_of a = record { fault = record { number = a.number; «record» = a.place; column = a.column }; counts = a.counts }
+-- the counts, or a refusal; the number 0 is acceptance
+unfoldable pub checked_of : calls.Answer → Result (List ℕ) Fault
+checked_of a = cond (a.number =? 0) (Ok a.counts) (Err record { number = a.number; «record» = a.place; column = a.column })
 
--- a verdict on a file without counts; the number 0 is acceptance
-unfoldable pub fault_of : files.Result → Fault
-fault_of accept = record { number = 0; «record» = 0; column = 0 }
-fault_of (refuse n r c) = record { number = n; «record» = r; column = c }
+-- a verdict on a file without counts
+unfoldable pub fault_of : files.Result → Result (Unit {0}) Fault
+fault_of accept = Ok tt
+fault_of (refuse n r c) = Err record { number = n; «record» = r; column = c }
 
 unfoldable pub reading_of : calls.Reading → Result (Option ℕ × Record) Fault
 reading_of (calls.values q m) = Ok (count_of q, record_of m)

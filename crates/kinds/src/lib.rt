@@ -33,10 +33,7 @@ impl Job {
     pub fn new(first: u8, second: u8) -> Job
         ensures { result ≡ record { first = first; second = second } }
     {
-        Job {
-            first,
-            second,
-        }
+        Job { first, second }
     }
 
     // A letter followed by a letter or digit.
@@ -349,10 +346,7 @@ impl Antenna {
     pub fn new(antenna: u32, radome: Four) -> Antenna
         ensures { result ≡ record { antenna = antenna; radome = radome } }
     {
-        Antenna {
-            antenna,
-            radome,
-        }
+        Antenna { antenna, radome }
     }
 }
 
@@ -736,7 +730,7 @@ impl Record {
     pub const CODE_WIDTH: usize = 4;
 }
 
-// A refusal: 01's number, record and column. The number 0 is acceptance.
+// A refusal: 01's number, record and column.
 #[derive(Clone, Copy, PartialEq, Eq, Debug)]
 pub struct Fault {
     pub number: u32,
@@ -754,13 +748,6 @@ impl Fault {
             column,
         }
     }
-}
-
-// What form and rewrite answer: a fault, number 0 for acceptance, and a count of each kind of record, all 0 after a refusal.
-#[derive(Clone, Copy)]
-pub struct Checked {
-    pub fault: Fault,
-    pub counts: [u32; 14],
 }
 
 // What is wrong with a line or with some of its fields: the number and column of the first fault.

@@ -1,37 +1,45 @@
 -- The whole sheet: one law for each way through the call. Assumes nothing.
-use mathlib.Core.Path.{◌≡◌, refl, sym, ◌∙◌}
+use mathlib.Core.Path.{◌≡◌, refl, sym, ◌∙◌, ap}
 use mathlib.Core.Bool.{true, false}
 use mathlib.Core.List.{List, ◌++◌, append-nil}
 use Prim.Native.Nat.{ℕ, ◌/◌, ◌≤◌, ◌<◌}
 use native.Mathlib.Nat.{zero-add}
 use native.Mathlib.Omega.{arith}
 use lib.ListN.{length, drop}
-use Rattle.rules.specs.Tests.{◌&◌}
+use Rattle.std.specs.Prelude.{Result, Ok, Err}
+use Rattle.rules.specs.Tests.{◌&◌, ◌=?◌}
 use Rattle.rules.specs.Sheet.{file_line, kind_names, kind_lines, listed, sheet}
-use Rattle.rules.specs.Calls.{file_answer, references_table}
+use Rattle.rules.specs.Calls.{outcome, big_table, answer, file_answer, references_table}
+use Rattle.rules.specs.Records.{Meaning}
+use Rattle.rules.specs.Files as files
+use Rattle.rules.specs.Files.{accept, refuse, meanings}
+use Rattle.rules.specs.Chapter4.{chapter4}
 use Rattle.rules.proofs.Truth.{of≤, of>, of≡, of≢}
-use Rattle.kinds.specs.declared.Checked.{Checked}
+use Rattle.kinds.specs.declared.Fault.{Fault}
 use Rattle.kinds.specs.Values.{checked_of}
+use Rattle.walk.specs.Walking.{answer_of}
+use Rattle.walk.proofs.JudgeLaws.{answer_told, outcome_from_1}
 use Rattle.listing.specs.Laying.{laid, Laid}
-use Rattle.listing.specs.Listing.{answer_in, big_enough, list_answer, list_table, list_output}
+use Rattle.listing.specs.Listing.{listed_in, big_enough, list_answer, list_table, list_output}
 use Rattle.listing.proofs.LayLaws.{laid_on}
 use Rattle.listing.proofs.LineLaws.{same_text}
 
 -- ---- with and without the lines of the kinds
-module _ (blocks : ℕ) (v : Checked) (o : List ℕ) (e : ℕ) (mid : List ℕ) (p : Laid 0 49 (file_line blocks v.fault.number v.fault.«record» v.fault.column) o e mid) where
-  bad_text : (v.fault.number ≡ 0 → ⊥) → file_line blocks v.fault.number v.fault.«record» v.fault.column ≡ listed blocks (answer_in v)
-  unfolding listed answer_in
-  bad_text n = rw (of≢ n) (sym (append-nil _))
+module _ (blocks : ℕ) {v : Result (List ℕ) Fault} (o : List ℕ) (e : ℕ) (mid : List ℕ) where
+  pub checked_bad : (g : Fault) → v ≡ Err g → Laid 0 49 (file_line blocks g.number g.«record» g.column) o e mid → Laid 0 315 (listed_in blocks v) o e mid
+  unfolding listed_in
+  checked_bad g q p = rw q record { ends = p.ends; short = omega (arith, p.short); output = p.output }
 
-  pub checked_bad : (v.fault.number ≡ 0 → ⊥) → Laid 0 315 (listed blocks (answer_in v)) o e mid
-  checked_bad n = let q = same_text (bad_text n) p in record { ends = q.ends; short = omega (arith, p.short); output = q.output }
+  pub checked_good : (cs : List ℕ) → v ≡ Ok cs → {g : Fault} → g ≡ record { number = 0; «record» = 0; column = 0 } → Laid 0 49 (file_line blocks g.number g.«record» g.column) o e mid
+      → 512 ≤ length o → {r : ℕ} {left : List ℕ} → Laid e 266 (kind_lines kind_names cs) mid r left → Laid 0 315 (listed_in blocks v) o r left
+  unfolding listed_in
+  checked_good cs q z p h k = rw q (laid_on (rw z at p) k (omega arith))
 
-  good-text : v.fault.number ≡ 0 → file_line blocks v.fault.number v.fault.«record» v.fault.column ++ kind_lines kind_names v.counts ≡ listed blocks (answer_in v)
-  unfolding listed answer_in
-  good-text n = rw (of≡ n)
-
-  pub checked_good : v.fault.number ≡ 0 → 512 ≤ length o → {r : ℕ} {left : List ℕ} → Laid e 266 (kind_lines kind_names v.counts) mid r left → Laid 0 315 (listed blocks (answer_in v)) o r left
-  checked_good n h q = same_text (good-text n) (laid_on p q (omega arith))
+-- what a verdict is listed as
+listed_told : (blocks : ℕ) (x : files.Result) (ms : List Meaning) → ((n r c : ℕ) → x ≡ refuse n r c → 1 ≤ n) → listed_in blocks (answer_of x ms) ≡ listed blocks (answer x ms)
+unfolding listed_in listed answer_of answer
+listed_told blocks accept ms h = unfold ◌=?◌ in refl
+listed_told blocks (refuse n r c) ms h = let k = h n r c refl in rw (of≢ {m = n} {n = 0} (λ z. omega arith)) (sym (append-nil _))
 
 -- ---- too short an output
 module _ (f t o : List ℕ) (h : length o < 512) where
@@ -79,26 +87,36 @@ module _ (f t o : List ℕ) (h : 512 ≤ length o) where
     unfolding sheet
     large_text = rw (of> {m = length f} {n = 64_800} k)
 
-    pub large_answer : {r : ℕ} {left : List ℕ} → Laid 0 49 (file_line 0 1 0 0) o r left → r ≡ list_answer f t o
-    large_answer p = text_answer large_text p
+    module _ (g : Fault) (z : g ≡ record { number = 1; «record» = 0; column = 0 }) {r : ℕ} {left : List ℕ} (p : Laid 0 49 (file_line 0 g.number g.«record» g.column) o r left) where
+      pub large_answer : r ≡ list_answer f t o
+      large_answer = text_answer large_text (rw z at p)
 
-    pub large_output : {r : ℕ} {left : List ℕ} → Laid 0 49 (file_line 0 1 0 0) o r left → left ≡ list_output f t o
-    large_output p = text_output large_text p
+      pub large_output : left ≡ list_output f t o
+      large_output = text_output large_text (rw z at p)
 
     pub large_table : t ≡ list_table f t o
     unfolding list_table ◌&◌
     large_table = rw (big, of> {m = length f} {n = 64_800} k)
 
   -- any other
-  module _ (k : length f ≤ 64_800) (v : Checked) (a : v ≡ checked_of (file_answer f t)) where
-    found_text : listed (length f / 81) (answer_in v) ≡ sheet f t
-    unfolding sheet
-    found_text = rw (of≤ k, a) (unfold answer_in checked_of in refl)
+  module _ (k : length f ≤ 64_800) (v : Result (List ℕ) Fault) (a : v ≡ checked_of (file_answer f t)) where
+    file_is : file_answer f t ≡ answer (outcome (big_table t) f) (meanings chapter4 f)
+    unfolding file_answer
+    file_is = refl
 
-    pub found_answer : {r : ℕ} {left : List ℕ} → Laid 0 315 (listed (length f / 81) (answer_in v)) o r left → r ≡ list_answer f t o
+    told : v ≡ answer_of (outcome (big_table t) f) (meanings chapter4 f)
+    told = a ∙ ap checked_of file_is ∙ answer_told (outcome (big_table t) f) (meanings chapter4 f) (outcome_from_1 (big_table t) f)
+
+    found_text : listed_in (length f / 81) v ≡ sheet f t
+    unfolding sheet
+    found_text =
+        rw (of≤ k)
+        (ap (listed_in (length f / 81)) told ∙ listed_told (length f / 81) (outcome (big_table t) f) (meanings chapter4 f) (outcome_from_1 (big_table t) f) ∙ ap (listed (length f / 81)) (sym file_is))
+
+    pub found_answer : {r : ℕ} {left : List ℕ} → Laid 0 315 (listed_in (length f / 81) v) o r left → r ≡ list_answer f t o
     found_answer p = text_answer found_text p
 
-    pub found_output : {r : ℕ} {left : List ℕ} → Laid 0 315 (listed (length f / 81) (answer_in v)) o r left → left ≡ list_output f t o
+    pub found_output : {r : ℕ} {left : List ℕ} → Laid 0 315 (listed_in (length f / 81) v) o r left → left ≡ list_output f t o
     found_output p = text_output found_text p
 
   pub found_table : length f ≤ 64_800 → {u : List ℕ} → u ≡ references_table f t → u ≡ list_table f t o

@@ -1,11 +1,11 @@
 -- What `list` answers and leaves, for every input, table and output, and what it promises.
-use Rattle.std.specs.Prelude.{◌≡◌, Bool, cond, List, [], ◌∷◌, ◌++◌, ℕ, length, drop, get_or}
+use Rattle.std.specs.Prelude.{◌≡◌, Bool, cond, List, [], ◌∷◌, ◌++◌, ℕ, length, drop, get_or, Result, Ok, Err}
 use Rattle.rules.specs.Tests.{◌&◌, ◌≤?◌}
 use Rattle.rules.specs.Characters.{ascii}
 use Rattle.rules.specs.Digits.{numeral}
-use Rattle.rules.specs.Calls.{Answer, references_table}
-use Rattle.rules.specs.Sheet.{tabbed, kind_names, sheet}
-use Rattle.kinds.specs.declared.Checked.{Checked}
+use Rattle.rules.specs.Calls.{references_table}
+use Rattle.rules.specs.Sheet.{tabbed, file_line, kind_names, kind_lines, sheet}
+use Rattle.kinds.specs.declared.Fault.{Fault}
 
 -- 512 bytes have room for every sheet
 unfoldable pub big_enough : List ℕ → Bool
@@ -30,8 +30,10 @@ pub record Promised (f t o : List ℕ) (r : ℕ) (words left : List ℕ) : Type 
   pub output : left ≡ list_output f t o
 
 -- ---- the parts
-unfoldable pub answer_in : Checked → Answer
-answer_in v = record { number = v.fault.number; place = v.fault.«record»; column = v.fault.column; counts = v.counts }
+-- the sheet of a file of so many records, by what form and references say together
+unfoldable pub listed_in : ℕ → Result (List ℕ) Fault → List ℕ
+listed_in blocks (Ok cs) = file_line blocks 0 0 0 ++ kind_lines kind_names cs
+listed_in blocks (Err g) = file_line blocks g.number g.«record» g.column
 
 unfoldable pub kind_line : ℕ → ℕ → List ℕ
 unfolding ascii

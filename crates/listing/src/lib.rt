@@ -5,12 +5,11 @@ mod lines;
 mod words;
 
 ghost use Rattle.std.specs.Prelude.{length, ◌≤◌};
-ghost use Rattle.rules.specs.Sheet.{listed};
 ghost use Rattle.listing.specs.Laying.{Laid};
-ghost use Rattle.listing.specs.Listing.{answer_in, Promised};
+ghost use Rattle.listing.specs.Listing.{listed_in, Promised};
 
 use crate::lines::{list_file, list_kinds};
-use kinds::{Checked, Fault};
+use kinds::Fault;
 
 // The most that the sheet takes: 800 records.
 pub const MOST: usize = 64_800;
@@ -18,18 +17,18 @@ pub const MOST: usize = 64_800;
 // An output of so many bytes has room for every sheet.
 pub const ROOM: usize = 512;
 
-// On acceptance a line for each kind follows the first.
-fn list_checked(out: &mut [u8], blocks: usize, v: Checked) -> usize
+// On acceptance, which the first line names by the number 0, a line for each kind follows it.
+fn list_checked(out: &mut [u8], blocks: usize, v: Result<[u32; 14], Fault>) -> usize
     requires { 512 ≤ length out.old }
-    ensures { Laid 0 315 (listed blocks (answer_in v)) out.old result out.new }
+    ensures { Laid 0 315 (listed_in blocks v) out.old result out.new }
 {
-    let fault = v.fault;
-    let counts = v.counts;
-    let at = list_file(out, blocks, fault);
-    if fault.number != 0 {
-        return at;
+    match v {
+        Err(fault) => list_file(out, blocks, fault),
+        Ok(counts) => {
+            let at = list_file(out, blocks, Fault::new(0, 0, 0));
+            list_kinds(out, at, counts)
+        }
     }
-    list_kinds(out, at, counts)
 }
 
 // The sheet from the output's first byte on, and its length. The room is looked at first and is the same for every input, so that
@@ -43,12 +42,7 @@ pub fn list(input: &[u8], table: &mut [u32], out: &mut [u8]) -> usize
     }
     let n = input.len();
     if MOST < n {
-        let fault = Fault {
-            number: 1,
-            record: 0,
-            column: 0,
-        };
-        return list_file(out, 0, fault);
+        return list_file(out, 0, Fault::new(1, 0, 0));
     }
     let found = walk::judge(input, table);
     list_checked(out, n / 81, found)

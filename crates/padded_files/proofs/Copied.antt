@@ -1,11 +1,12 @@
 -- "A carriage return anywhere else is copied, for check to refuse": what form says of a padded file in which a line has one, from the promises alone.
-use mathlib.Core.Path.{◌≡◌, ◌∙◌, ap}
+use mathlib.Core.Path.{◌≡◌, refl, ◌∙◌, ap}
 use mathlib.Core.Bool.{true}
 use mathlib.Core.List.{List, [], ◌∷◌, ◌++◌}
 use Prim.Native.Nat.{ℕ, ◌+◌, ◌-◌, ◌<◌}
 use native.Mathlib.Omega.{arith}
 use lib.ListN.{length, replicate, get_or, take}
 use lib.Seq.{take-append-add}
+use Rattle.std.specs.Prelude.{Result, Ok, IsOk}
 use Rattle.rules.specs.Tests.{all}
 use Rattle.rules.specs.Members.{◌∈◌}
 use Rattle.rules.specs.Characters.{is_printable}
@@ -15,7 +16,7 @@ use Rattle.rules.specs.Padding.{texts, padded, judge_texts}
 use Rattle.rules.proofs.Truth.{all-parts, all_members}
 use Rattle.rules.proofs.SetLaws.{printed_of}
 use Rattle.rules.proofs.PaddingLaws.{padded_long, padded_line_lem, not_printed, short_at}
-use Rattle.kinds.specs.declared.Checked.{Checked}
+use Rattle.kinds.specs.declared.Fault.{Fault}
 use Rattle.walk.specs.Promise as walk
 use Rattle.padding.proofs.PadDemands.{passed}
 use Rattle.padded_files.specs.AfterPad.{Padding, padded_part}
@@ -41,7 +42,7 @@ module _ (f : List ℕ) (good : judge_texts 1 (texts f) ≡ accept) (i : ℕ) (h
 
 -- form accepts nothing that pad left where a line of the input has a CR
 pub copied_refused : {f : List ℕ} (x : Padding f) (i : ℕ) → i < length (texts f) → 13 ∈ get_or (texts f) i []
-    → (v : Checked) → walk.FormPromised (padded_part x) v → v.fault.number ≡ 0 → ⊥
+    → (v : Result (List ℕ) Fault) → walk.FormPromised (padded_part x) v → IsOk v → ⊥
 copied_refused {f} x i h cr v p zero =
-    let good = passed f x.output x.answer x.output_left x.promised x.good in
+    let good = passed f x.output (Ok x.lines) x.output_left x.promised refl in
     not_printed 13 (all_members is_printable (get_or (texts f) i []) (formed_printed f good i h ((forms x v p).judging.forming.0 zero)) 13 cr) (omega arith)

@@ -1,8 +1,9 @@
 -- Inputs that differ only in trimming and line ends, from the promises alone.
-use mathlib.Core.Path.{◌≡◌, sym, ◌∙◌}
+use mathlib.Core.Path.{◌≡◌, refl, sym, ◌∙◌}
 use mathlib.Core.Logic.{◌↔◌}
 use mathlib.Core.List.{List}
 use Prim.Native.Nat.{ℕ}
+use Rattle.std.specs.Prelude.{Ok}
 use Rattle.rules.specs.Files.{accept}
 use Rattle.rules.specs.Padding.{texts, padded, judge_texts, OnlyTrimmed}
 use Rattle.rules.proofs.PaddingLaws.{trimmed_same}
@@ -11,7 +12,7 @@ use Rattle.padded_files.specs.AfterPad.{Padding, padded_part, SameAnswers}
 use Rattle.padded_files.proofs.OverPadded.{padded_part_is, same_answers}
 
 lines_pass : {f : List ℕ} (x : Padding f) → judge_texts 1 (texts f) ≡ accept
-lines_pass {f} x = passed f x.output x.answer x.output_left x.promised x.good
+lines_pass {f} x = passed f x.output (Ok x.lines) x.output_left x.promised refl
 
 module _ {f g : List ℕ} (x : Padding f) (y : Padding g) where
   same_padded : (padded f ≡ padded g) ↔ OnlyTrimmed f g

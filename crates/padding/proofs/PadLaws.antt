@@ -4,10 +4,14 @@ use mathlib.Core.List.{List, ◌++◌}
 use Prim.Native.Nat.{ℕ, ◌*◌, ◌/◌, ◌≤◌, ◌<◌}
 use native.Mathlib.Omega.{arith}
 use lib.ListN.{length, drop}
-use Rattle.rules.specs.Files.{Result, accept, refuse, is_accept, and_then}
+use Rattle.std.specs.Prelude.{Result, Ok, Err}
+use Rattle.rules.specs.Tests.{◌=?◌}
+use Rattle.rules.specs.Files as files
+use Rattle.rules.specs.Files.{accept, refuse, is_accept, and_then}
 use Rattle.rules.specs.Padding.{texts, padded, judge_texts, pad_verdict, PadFirst, pad_answer_by, pad_answer, pad_output}
-use Rattle.rules.proofs.Truth.{of>}
-use Rattle.padding.specs.declared.Padded.{Padded}
+use Rattle.rules.proofs.Truth.{of>, of≢}
+use Rattle.kinds.specs.declared.Fault.{Fault}
+use Rattle.kinds.proofs.ValueLaws.{same_fault, same_ok, ok_not_err}
 use Rattle.padding.specs.Promise.{padded_of, Promised}
 use Rattle.padding.proofs.PadDemands.{parts-good, above_zero, refused-first}
 
@@ -20,49 +24,50 @@ module _ (f o : List ℕ) where
   unfolding pad_verdict and_then
   verdict_narrow e h = rw (e, of> h)
 
-  refused : (v : Padded) (n r c m : ℕ) → v ≡ padded_of (pad_answer_by (refuse n r c) m) → pad_verdict f (length o) ≡ refuse n r c → Promised f o v o
-  unfolding pad_answer pad_output is_accept pad_answer_by
-  refused v n r c m e p = record { answered = rw p e; written = rw p }
+  refused : (n r c : ℕ) → 1 ≤ n → pad_verdict f (length o) ≡ refuse n r c → Promised f o (Err record { number = n; «record» = r; column = c }) o
+  unfolding pad_answer pad_output is_accept pad_answer_by padded_of
+  refused n r c h p = record { answered = rw (p, of≢ {m = n} {n = 0} (λ y. omega arith)); written = rw p }
 
-  taken : (v : Padded) (p : List ℕ) → v ≡ padded_of (pad_answer_by accept (length (texts f))) → p ≡ padded f ++ drop (81 * length (texts f)) o
-      → pad_verdict f (length o) ≡ accept → Promised f o v p
-  unfolding pad_answer pad_output is_accept
-  taken v p e w a = record { answered = rw a e; written = rw a w }
+  taken : (p : List ℕ) → p ≡ padded f ++ drop (81 * length (texts f)) o → pad_verdict f (length o) ≡ accept → Promised f o (Ok (length (texts f))) p
+  unfolding pad_answer pad_output is_accept pad_answer_by padded_of ◌=?◌
+  taken p w a = record { answered = rw a; written = rw a w }
 
-  module _ (v : Padded) (ev : v ≡ padded_of (pad_answer_by (judge_texts 1 (texts f)) (length (texts f)))) where
-    judged_as : (x : Result) → judge_texts 1 (texts f) ≡ x → v ≡ padded_of (pad_answer_by x (length (texts f)))
-    judged_as x e = ev ∙ ap (λ y. padded_of (pad_answer_by y (length (texts f)))) e
+  module _ (v : Result ℕ Fault) (ev : v ≡ padded_of (pad_answer_by (judge_texts 1 (texts f)) (length (texts f)))) where
+    from_1 : (n r c : ℕ) → judge_texts 1 (texts f) ≡ refuse n r c → 1 ≤ n
+    unfolding PadFirst
+    from_1 n r c e = above_zero f (length o) n r c (refused-first f (length o) n r c (verdict-refused n r c e)).0
 
-    number_is : (n r c : ℕ) → judge_texts 1 (texts f) ≡ refuse n r c → v.fault.number ≡ n
-    number_is n r c e = ap (λ (y : Padded). y.fault.number) (judged_as (refuse n r c) e) ∙ (unfold padded_of pad_answer_by in refl)
+    as_bad : (n r c : ℕ) → judge_texts 1 (texts f) ≡ refuse n r c → v ≡ Err record { number = n; «record» = r; column = c }
+    unfolding padded_of pad_answer_by
+    as_bad n r c e = ev ∙ rw (e, of≢ {m = n} {n = 0} (λ y. omega (arith, y, from_1 n r c e)))
 
-    zero-good : judge_texts 1 (texts f) ≡ accept → v.fault.number ≡ 0
-    zero-good e = ap (λ (y : Padded). y.fault.number) (judged_as accept e) ∙ (unfold padded_of pad_answer_by in refl)
+    as_good : judge_texts 1 (texts f) ≡ accept → v ≡ Ok (length (texts f))
+    unfolding padded_of pad_answer_by ◌=?◌
+    as_good e = ev ∙ rw e
 
-    pub faulty : (v.fault.number ≡ 0 → ⊥) → Promised f o v o
-    faulty z = go (judge_texts 1 (texts f)) refl
+    pub faulty : (g : Fault) → v ≡ Err g → Promised f o (Err g) o
+    faulty g q = go (judge_texts 1 (texts f)) refl
       where
-        go : (x : Result) → judge_texts 1 (texts f) ≡ x → Promised f o v o
-        go accept e = absurd (z (zero-good e))
-        go (refuse n r c) e = refused v n r c (length (texts f)) (judged_as (refuse n r c) e) (verdict-refused n r c e)
+        go : (x : files.Result) → judge_texts 1 (texts f) ≡ x → Promised f o (Err g) o
+        go accept e = absurd (ok_not_err (as_good e) q)
+        go (refuse n r c) e = rw (same_fault q (as_bad n r c e)) (refused n r c (from_1 n r c e) (verdict-refused n r c e))
 
-    module _ (z : v.fault.number ≡ 0) where
+    module _ (k : ℕ) (z : v ≡ Ok k) where
       pub good-lines : judge_texts 1 (texts f) ≡ accept
       good-lines = go (judge_texts 1 (texts f)) refl
         where
-          go : (x : Result) → judge_texts 1 (texts f) ≡ x → judge_texts 1 (texts f) ≡ accept
+          go : (x : files.Result) → judge_texts 1 (texts f) ≡ x → judge_texts 1 (texts f) ≡ accept
           go accept e = e
-          go (refuse n r c) e =
-              absurd (omega (arith, number_is n r c e, above_zero f (length o) n r c (unfold PadFirst in (refused-first f (length o) n r c (verdict-refused n r c e)).0)))
+          go (refuse n r c) e = absurd (ok_not_err z (as_bad n r c e))
 
-      pub count : v.lines ≡ length (texts f)
-      count = ap (λ (y : Padded). y.lines) (judged_as accept good-lines) ∙ (unfold padded_of pad_answer_by in refl)
+      pub count : k ≡ length (texts f)
+      count = same_ok z (as_good good-lines)
 
-      pub narrow : length o / 81 < v.lines → (x : Padded) → x ≡ padded_of (pad_answer_by (refuse 1 0 0) 0) → Promised f o x o
-      narrow h x e = refused x 1 0 0 0 e (verdict_narrow good-lines (omega (arith, count)))
+      pub narrow : length o / 81 < k → {g : Fault} → g ≡ record { number = 1; «record» = 0; column = 0 } → Promised f o (Err g) o
+      narrow h e = rw e (refused 1 0 0 (omega arith) (verdict_narrow good-lines (omega (arith, count))))
 
-      pub before : (near : ℕ) → near ≤ length (texts f) → near ≤ v.lines
+      pub before : (near : ℕ) → near ≤ length (texts f) → near ≤ k
       before near h = omega (arith, count)
 
-      pub laid : v.lines ≤ length o / 81 → (p : List ℕ) → p ≡ padded f ++ drop (81 * v.lines) o → Promised f o v p
-      laid h p e = taken v p (judged_as accept good-lines) (e ∙ ap (λ n. padded f ++ drop (81 * n) o) count) (parts-good f (length o) good-lines (omega (arith, count)))
+      pub laid : k ≤ length o / 81 → (p : List ℕ) → p ≡ padded f ++ drop (81 * k) o → Promised f o (Ok k) p
+      laid h p e = rw count (taken p (e ∙ ap (λ n. padded f ++ drop (81 * n) o) count) (parts-good f (length o) good-lines (omega (arith, count))))

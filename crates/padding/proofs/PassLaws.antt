@@ -6,11 +6,13 @@ use native.Mathlib.Nat.{le_trans}
 use native.Mathlib.Omega.{arith}
 use lib.ListN.{length, length-take, length-drop, take, drop, drop_of_length-le}
 use lib.Seq.{drop-drop, length-take-le}
+use Rattle.std.specs.Prelude.{Result, Ok, Err}
+use Rattle.rules.specs.Tests.{◌=?◌}
 use Rattle.rules.specs.Fields.{check, ◌⨾◌}
-use Rattle.rules.specs.Files.{Result, accept, refuse, in_record}
+use Rattle.rules.specs.Files.{accept, refuse, in_record}
 use Rattle.rules.specs.Padding.{lines_of, texts, judge_texts, pad_answer_by}
-use Rattle.rules.proofs.Truth.{of≤, of>}
-use Rattle.padding.specs.declared.Padded.{Padded}
+use Rattle.rules.proofs.Truth.{of≤, of>, of≢}
+use Rattle.kinds.specs.declared.Fault.{Fault}
 use Rattle.padding.specs.Lines.{feed_at, text_length}
 use Rattle.padding.specs.Promise.{padded_of}
 use Rattle.padding.proofs.FeedLaws.{feed_most}
@@ -72,39 +74,38 @@ pub judge_from : (f : List ℕ) → Judging f 0 0
 judge_from f = record { few = omega arith; within = omega arith; verdict = refl; count = omega arith }
 
 -- what a verdict gives is the answer
-pub answer_is : (f : List ℕ) (v : Padded) (x : Result) (n : ℕ) → v ≡ padded_of (pad_answer_by x n) → x ≡ judge_texts 1 (texts f) → n ≡ length (texts f)
-    → v ≡ padded_of (pad_answer_by (judge_texts 1 (texts f)) (length (texts f)))
-answer_is f v x n e p q = e ∙ ap₂ (λ y m. padded_of (pad_answer_by y m)) p q
+pub answer_is : (f : List ℕ) (n : ℕ) → accept ≡ judge_texts 1 (texts f) → n ≡ length (texts f) → Ok n ≡ padded_of (pad_answer_by (judge_texts 1 (texts f)) (length (texts f)))
+unfolding padded_of pad_answer_by ◌=?◌
+answer_is f n p q = rw (← p, q)
 
-refusal_is : (f : List ℕ) (v : Padded) (x r c : ℕ) → v ≡ padded_of (pad_answer_by (refuse x r c) 0) → judge_texts 1 (texts f) ≡ refuse x r c
-    → v ≡ padded_of (pad_answer_by (judge_texts 1 (texts f)) (length (texts f)))
-refusal_is f v x r c e p =
-    let none : pad_answer_by (refuse x r c) 0 ≡ pad_answer_by (refuse x r c) (length (texts f)) = unfold pad_answer_by in refl in
-    e ∙ ap padded_of (none ∙ ap (λ y. pad_answer_by y (length (texts f))) (sym p))
+refusal_is : (f : List ℕ) (x r c : ℕ) → 1 ≤ x → {b : Fault} → b ≡ record { number = x; «record» = r; column = c } → judge_texts 1 (texts f) ≡ refuse x r c
+    → Err b ≡ padded_of (pad_answer_by (judge_texts 1 (texts f)) (length (texts f)))
+unfolding padded_of pad_answer_by
+refusal_is f x r c h z p = rw (z, p, of≢ {m = x} {n = 0} (λ y. omega arith))
 
 module _ (f : List ℕ) (at lines : ℕ) (g : Judging f at lines) where
-  pub judge_end : length f ≤ at → (v : Padded) → v ≡ padded_of (pad_answer_by accept lines) → v ≡ padded_of (pad_answer_by (judge_texts 1 (texts f)) (length (texts f)))
-  judge_end h v e =
+  pub judge_end : length f ≤ at → Ok lines ≡ padded_of (pad_answer_by (judge_texts 1 (texts f)) (length (texts f)))
+  judge_end h =
       let none : accept ≡ judge_texts (lines + 1) [] = unfold judge_texts in refl in
-      answer_is f v accept lines e
+      answer_is f lines
       (none ∙ ap (judge_texts (lines + 1)) (sym (no_texts f at h)) ∙ g.verdict)
       (omega (arith, ap length (no_texts f at h), g.count))
 
   module _ (h : at < length f) where
-    pub judge_2 : lines ≡ 99_999 → (v : Padded) → v ≡ padded_of (pad_answer_by (refuse 2 100_000 1) 0) → v ≡ padded_of (pad_answer_by (judge_texts 1 (texts f)) (length (texts f)))
-    judge_2 l v e =
+    pub judge_2 : lines ≡ 99_999 → {b : Fault} → b ≡ record { number = 2; «record» = 100_000; column = 1 } → Err b ≡ padded_of (pad_answer_by (judge_texts 1 (texts f)) (length (texts f)))
+    judge_2 l e =
         let last : lines + 1 ≡ 100_000 = omega arith in
-        refusal_is f v 2 100_000 1 e
+        refusal_is f 2 100_000 1 (omega arith) e
         (sym g.verdict ∙ ap (judge_texts (lines + 1)) (first-text (drop at f) (some f at h)) ∙ judged_2 (lines + 1) _ _ (omega arith) ∙ ap (λ r. refuse 2 r 1) last)
 
     module _ (z : lines ≡ 99_999 → ⊥) (w : List ℕ) (ew : w ≡ take 82 (drop at f)) (n : ℕ) (en : n ≡ feed_at w) (k : ℕ) (ek : k ≡ text_length w n) where
       below : lines + 1 ≤ 99_999
       below = omega (arith, z, g.few)
 
-      pub judge_5 : 80 < k → (v : Padded) → v ≡ padded_of (pad_answer_by (refuse 5 (lines + 1) 81) 0) → v ≡ padded_of (pad_answer_by (judge_texts 1 (texts f)) (length (texts f)))
-      judge_5 l v e =
+      pub judge_5 : 80 < k → {b : Fault} → b ≡ record { number = 5; «record» = lines + 1; column = 81 } → Err b ≡ padded_of (pad_answer_by (judge_texts 1 (texts f)) (length (texts f)))
+      judge_5 l e =
           let x = long_text (drop at f) (some f at h) w ew n en k ek l in
-          refusal_is f v 5 (lines + 1) 81 e
+          refusal_is f 5 (lines + 1) 81 (omega arith) e
           (sym g.verdict ∙ ap (judge_texts (lines + 1)) x.2 ∙ judged_5 (lines + 1) x.0 x.1 below x.3)
 
       pub judge_next : k ≤ 80 → Judging f (at + (n + 1)) (lines + 1)

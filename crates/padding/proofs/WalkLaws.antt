@@ -11,10 +11,12 @@ use lib.ListN.{length, length-append, length-take, get_or, set, take, drop, drop
 use lib.Seq.{take-suc, take_all, drop-cons, drop_at}
 use Rattle.rules.specs.Tests.{all, ◌≤?◌}
 use Rattle.rules.specs.Files.{accept}
-use Rattle.rules.specs.Padding.{texts, judge_texts}
+use Rattle.rules.specs.Padding.{texts, judge_texts, pad_answer_by}
 use Rattle.rules.proofs.Truth.{and, of≤, cases, all_append}
 use Rattle.rules.proofs.FileLaws.{is_accept_lem}
 use Rattle.rules.proofs.PaddingLaws.{short_passed, short_texts}
+use Rattle.std.specs.Prelude.{Ok}
+use Rattle.padding.specs.Promise.{padded_of}
 use Rattle.padding.specs.Lines.{feed_at, text_length}
 use Rattle.padding.specs.Walks.{lines_ahead, too_long, long_ahead, sum, Passed, Told, Halved}
 use Rattle.padding.proofs.FeedLaws.{feed_most, lent_rest}
@@ -195,3 +197,7 @@ module _ (f : List ℕ) (start : ℕ) (some : 1 ≤ start) (h : start ≤ length
       within = omega (arith, number);
       behind = sym (ap (drop near) split ∙ drop_at (texts (take start f)) (texts (drop start f)) near (sym (tn.counted zn)));
     }
+
+-- the answer
+pub told-good : (f : List ℕ) (n : ℕ) → Told f n → (n ≡ 0 → ⊥) → Ok n ≡ padded_of (pad_answer_by (judge_texts 1 (texts f)) (length (texts f)))
+told-good f n t z = answer_is f n (sym (t.passes z)) (t.counted z)

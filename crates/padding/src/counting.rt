@@ -62,26 +62,17 @@ fn walk_on(input: &[u8], from: usize, end: usize, before: u32) -> Walk
     // Kept: a walk steps by the length of a line, and no range has its places.
     while place < end {
         if lines == 99_999 {
-            return Walk {
-                place,
-                lines,
-            };
+            return Walk { place, lines };
         }
         let part = middle(input, place, 82);
         let n = feed_at(part);
         if 80 < text_length(part, n) {
-            return Walk {
-                place,
-                lines,
-            };
+            return Walk { place, lines };
         }
         place += n + 1;
         lines += 1;
     }
-    Walk {
-        place,
-        lines,
-    }
+    Walk { place, lines }
 }
 
 // Each walk on to its end, one after the other.

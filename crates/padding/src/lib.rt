@@ -7,7 +7,6 @@ mod lines;
 mod stretches;
 
 ghost use Rattle.std.specs.Prelude.{◌≡◌, length};
-ghost use Rattle.rules.specs.Files.{accept, refuse};
 ghost use Rattle.rules.specs.Padding.{texts, judge_texts, pad_answer_by};
 ghost use Rattle.padding.specs.Promise.{padded_of, Promised};
 ghost use Rattle.padding.specs.Walks.{Told};
@@ -19,41 +18,8 @@ use crate::stretches::lay_lines;
 use columns::parts::middle;
 use kinds::Fault;
 
-// The number of lines, or a fault and 0 lines.
-#[derive(Clone, Copy)]
-pub struct Padded {
-    pub fault: Fault,
-    pub lines: u32,
-}
-
-fn refused(number: u32, record: usize, column: usize) -> Padded
-    ensures { result ≡ padded_of (pad_answer_by (refuse number «record» column) 0) }
-{
-    Padded {
-        fault: Fault {
-            number,
-            record,
-            column,
-        },
-        lines: 0,
-    }
-}
-
-fn good(lines: u32) -> Padded
-    ensures { result ≡ padded_of (pad_answer_by accept lines) }
-{
-    Padded {
-        fault: Fault {
-            number: 0,
-            record: 0,
-            column: 0,
-        },
-        lines,
-    }
-}
-
 // Line by line, 2 and then 5. Here and below `as` is kept: usize has no From<u32>. Nothing is written before the last line is judged, since a refusal leaves the output as it was.
-fn judge_lines(input: &[u8]) -> Padded
+fn judge_lines(input: &[u8]) -> Result<u32, Fault>
     ensures { result ≡ padded_of (pad_answer_by (judge_texts 1 (texts input.now)) (length (texts input.now))) }
 {
     let size = input.len();
@@ -62,49 +28,46 @@ fn judge_lines(input: &[u8]) -> Padded
     // Kept: each step is the length of a line, and no range has the places.
     while at < size {
         if lines == 99_999 {
-            return refused(2, 100_000, 1);
+            return Err(Fault::new(2, 100_000, 1));
         }
         let part = middle(input, at, 82);
         let n = feed_at(part);
         lines += 1;
         if 80 < text_length(part, n) {
-            return refused(5, lines as usize, 81);
+            return Err(Fault::new(5, lines as usize, 81));
         }
         at += n + 1;
     }
-    good(lines)
+    Ok(lines)
 }
 
 // What is told of all lines at once is not judged line by line.
-fn judge(input: &[u8], told: u32) -> Padded
+fn judge(input: &[u8], told: u32) -> Result<u32, Fault>
     requires { Told input.now told }
     ensures { result ≡ padded_of (pad_answer_by (judge_texts 1 (texts input.now)) (length (texts input.now))) }
 {
     if told != 0 {
-        return good(told);
+        return Ok(told);
     }
     judge_lines(input)
 }
 
-// The padded lines from the output's first byte on; its rest stays, and all of it after a refusal.
-pub fn pad(input: &[u8], out: &mut [u8]) -> Padded
+// The number of lines, and the padded lines from the output's first byte on; its rest stays, and all of it after a refusal.
+pub fn pad(input: &[u8], out: &mut [u8]) -> Result<u32, Fault>
     ensures { Promised input.now out.old result out.new }
 {
     let halves = count_halves(input);
-    let v = judge(input, halves.lines);
-    if v.fault.number != 0 {
-        return v;
-    }
-    if out.len() / 81 < v.lines as usize {
-        return refused(1, 0, 0);
+    let lines = judge(input, halves.lines)?;
+    if out.len() / 81 < lines as usize {
+        return Err(Fault::new(1, 0, 0));
     }
     lay_lines(
         input,
         halves.start,
         halves.near as usize,
-        v.lines as usize,
+        lines as usize,
         &MASKS,
         out,
     );
-    v
+    Ok(lines)
 }

@@ -34,20 +34,14 @@ fn lay_in_turn(input: &[u8], near: Stretch, far: Stretch, masks: &[u8], out: &mu
     let mut here = near;
     let mut there = far;
     if size < 82 {
-        return Stretches {
-            here,
-            there,
-        };
+        return Stretches { here, there };
     }
     let last = size - 82;
     // Kept: the stretches change places with each line, and each counts what it has left.
     while 0 < here.lines {
         let from = here.from;
         if last < from {
-            return Stretches {
-                here,
-                there,
-            };
+            return Stretches { here, there };
         }
         let part = &input[from..from + 82];
         let n = feed_at(part);
@@ -63,10 +57,7 @@ fn lay_in_turn(input: &[u8], near: Stretch, far: Stretch, masks: &[u8], out: &mu
         here = there;
         there = rest;
     }
-    Stretches {
-        here,
-        there,
-    }
+    Stretches { here, there }
 }
 
 // What is left of a stretch.

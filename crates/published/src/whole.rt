@@ -2,7 +2,7 @@
 use crate::cells::Spot;
 use crate::faults::{lay_fault, lay_outcome};
 use crate::text::{SPACE, Text};
-use kinds::{Checked, Fault};
+use kinds::Fault;
 use std::io;
 use std::io::Write;
 
@@ -15,24 +15,16 @@ fn lay_counts(out: &mut Text, counts: &[u32; 14]) -> io::Result<()> {
     Ok(())
 }
 
-fn outcome_of(f: Fault) -> Result<(), Fault> {
-    if f.number == 0 { Ok(()) } else { Err(f) }
-}
-
-fn lay_verdict(out: &mut Text, c: Checked) -> io::Result<()> {
-    match outcome_of(c.fault) {
-        Ok(()) => lay_counts(out, &c.counts),
+pub(crate) fn lay_formed(out: &mut Text, file: &[u8]) -> io::Result<()> {
+    match walk::form(file) {
+        Ok(counts) => lay_counts(out, &counts),
         Err(f) => lay_fault(out, f),
     }
 }
 
-pub(crate) fn lay_formed(out: &mut Text, file: &[u8]) -> io::Result<()> {
-    lay_verdict(out, walk::form(file))
-}
-
 pub(crate) fn lay_referred(out: &mut Text, file: &[u8]) -> io::Result<()> {
     let mut table = [0u32; 12000];
-    match outcome_of(walk::references(file, &mut table)) {
+    match walk::references(file, &mut table) {
         Ok(()) => out.write_all(b"accepted"),
         Err(f) => lay_fault(out, f),
     }
@@ -40,7 +32,8 @@ pub(crate) fn lay_referred(out: &mut Text, file: &[u8]) -> io::Result<()> {
 
 fn rewrite_file(file: &[u8], space: &mut [u8; SPACE]) -> Result<(), Fault> {
     let mut table = [0u32; 12000];
-    outcome_of(rewriting::rewrite(file, &mut table, space).fault)
+    rewriting::rewrite(file, &mut table, space)?;
+    Ok(())
 }
 
 // The columns of the example as they stand in the rewritten file.

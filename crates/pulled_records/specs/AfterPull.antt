@@ -1,21 +1,20 @@
 -- 02, T-07: a pulled record that reads back as the record's values, and all records of a file pulled in order, stated of pull and of read, field or rewrite.
-use Rattle.std.specs.Prelude.{◌≡◌, List, ℕ, ◌*◌, length, take, get_or, Result, Ok, Some, Option, Some}
+use Rattle.std.specs.Prelude.{◌≡◌, List, ℕ, ◌*◌, length, take, get_or, Result, Ok, IsOk, Some, Option}
 use Rattle.kinds.specs.declared.Record.{Record}
 use Rattle.kinds.specs.declared.Fault.{Fault}
 use Rattle.reading.specs.Promise.{PromisedReading, PromisedPart}
-use Rattle.pulling.specs.declared.Pulled.{Pulled}
 use Rattle.pulling.specs.Promise as pull
 use Rattle.round_trips.specs.Texts.{text_columns}
 
--- a run of pull that answered 0, over the file f and the list rs
+-- a run of pull that took its list, over the file f and the list rs
 pub record Pull (f rs : List ℕ) : Type 0 where
   pub output : List ℕ
   pub places : List ℕ
-  pub answer : Pulled
+  pub answer : Result (Unit {0}) Fault
   pub output_left : List ℕ
   pub places_left : List ℕ
   pub promised : pull.Promised f rs output places answer output_left places_left
-  pub good : answer.fault.number ≡ 0
+  pub good : IsOk answer
 
 -- the first 81 bytes an entry of the output that it left, and as many places of the fault list as entries
 unfoldable pub pulled_part : {f rs : List ℕ} → Pull f rs → List ℕ

@@ -1,12 +1,13 @@
 -- What is refused and what stands for each entry, as facts about pull, from its promise alone.
 use mathlib.Core.Path.{◌≡◌, refl, sym, ◌∙◌, ap}
 use mathlib.Core.Logic.{◌⊎◌, inl, inr}
-use mathlib.Core.Bool.{true, false}
+use mathlib.Core.Bool.{true, false, false≢true}
 use mathlib.Core.List.{List, [], ◌++◌}
 use Prim.Native.Nat.{ℕ, ◌*◌, ◌≤◌, ◌<◌}
 use native.Mathlib.Omega.{arith}
 use lib.ListN.{length, length-append, length-drop, length-map, take, drop, get_or, get_or-append}
 use lib.Seq.{take_at, drop_at}
+use Rattle.std.specs.Prelude.{Result, Ok, Err, is_ok, is_err, IsOk, IsErr}
 use Rattle.rules.specs.Tests.{◌≤?◌}
 use Rattle.rules.specs.Members.{◌∈◌}
 use Rattle.rules.specs.Files.{accept, refuse, line_at, join}
@@ -17,12 +18,13 @@ use Rattle.rules.proofs.Truth.{cases, to≤, no≤, map_at, either}
 use Rattle.rules.proofs.FileLaws.{line_within}
 use Rattle.rules.proofs.PullingLaws.{pulled_long, pulled_at, fault_shown, blank_exactly}
 use Rattle.kinds.specs.Values.{fault_of, reading_of}
-use Rattle.pulling.specs.declared.Pulled.{Pulled}
+use Rattle.kinds.specs.declared.Fault.{Fault}
+use Rattle.kinds.proofs.ValueLaws.{not_ok, ok_is, same_fault, ok_not_err}
 use Rattle.pulling.specs.Promise.{pulled_of, Promised, Refusing, number_in, Stands, Pulling}
 use Rattle.pulling.proofs.PullLaws.{short_output, short_list, roomy}
 
 -- 01, "Prove that two results allowed by one promise are equal": the answer, every byte of the output and every word of the fault list
-pub one_result : (f rs o s : List ℕ) (v w : Pulled) (p q t u : List ℕ) → Promised f rs o s v p t → Promised f rs o s w q u → (v ≡ w) × (p ≡ q) × (t ≡ u)
+pub one_result : (f rs o s : List ℕ) (v w : Result (Unit {0}) Fault) (p q t u : List ℕ) → Promised f rs o s v p t → Promised f rs o s w q u → (v ≡ w) × (p ≡ q) × (t ≡ u)
 one_result f rs o s v w p q t u a b = (a.answered ∙ sym b.answered, a.written ∙ sym b.written, a.numbered ∙ sym b.numbered)
 
 -- the number that a reading names is the one that stands for it in the fault list
@@ -30,16 +32,6 @@ number_of : (x : calls.Reading) → fault_for x ≡ number_in (reading_of x)
 unfolding fault_for number_in reading_of
 number_of (values q m) = refl
 number_of (unread n p c) = refl
-
--- an answer by its numbers
-abbrev number : Pulled → ℕ
-number v = v.fault.number
-
-abbrev place : Pulled → ℕ
-place v = v.fault.«record»
-
-abbrev column : Pulled → ℕ
-column v = v.fault.column
 
 -- room or not, by lengths
 data Room (rs o s : List ℕ) : Type 0 where
@@ -52,40 +44,39 @@ room rs o s =
     (λ a. cases (length rs ≤? length s) (λ b. enough (roomy rs o s (to≤ a) (to≤ b)) (to≤ a) (to≤ b)) (λ b. short (short_list rs o s (no≤ b)) (inr (no≤ b))))
     (λ a. short (short_output rs o s (no≤ a)) (inl (no≤ a)))
 
-module _ (f rs o s : List ℕ) (v : Pulled) (p t : List ℕ) (promised : Promised f rs o s v p t) where
+module _ (f rs o s : List ℕ) (v : Result (Unit {0}) Fault) (p t : List ℕ) (promised : Promised f rs o s v p t) where
   -- ---- demand 1
-  done : pull_room rs o s ≡ true → (v.fault.number ≡ 0) × (v.fault.«record» ≡ 0) × (v.fault.column ≡ 0)
+  done : pull_room rs o s ≡ true → v ≡ Ok tt
   unfolding pull_answer pulled_of fault_of
-  done h = let e : v ≡ pulled_of accept = promised.answered ∙ rw h in (ap number e, ap place e, ap column e)
+  done h = promised.answered ∙ rw h
 
-  -- with room it answers 0
-  pub takes : 81 * length rs ≤ length o → length rs ≤ length s → v.fault.number ≡ 0
-  takes a b = (done (roomy rs o s a b)).0
+  -- with room it takes the list
+  pub takes : 81 * length rs ≤ length o → length rs ≤ length s → IsOk v
+  takes a b = ok_is (done (roomy rs o s a b))
 
-  refused : pull_room rs o s ≡ false → (v.fault.number ≡ 1) × (v.fault.«record» ≡ 0) × (v.fault.column ≡ 0) × (p ≡ o) × (t ≡ s)
+  refused : pull_room rs o s ≡ false → (v ≡ Err record { number = 1; «record» = 0; column = 0 }) × (p ≡ o) × (t ≡ s)
   unfolding pull_answer pull_output pull_faults pulled_of fault_of
-  refused h = let e : v ≡ pulled_of (refuse 1 0 0) = promised.answered ∙ rw h in (ap number e, ap place e, ap column e, promised.written ∙ rw h, promised.numbered ∙ rw h)
+  refused h = (promised.answered ∙ rw h, promised.written ∙ rw h, promised.numbered ∙ rw h)
 
   pub demand_1_pull : Refusing rs o s v p t
-  unfolding ◌∈◌
   demand_1_pull = by (room rs o s)
     where
       by : Room rs o s → Refusing rs o s v p t
       by (enough h a b) =
           let z = done h in
           record {
-            numbers = inl z.0;
-            place = (z.1, z.2);
-            short = ((λ k. absurd (omega (arith, k, z.0))), either (λ k. absurd (omega arith)) (λ k. absurd (omega arith)));
-            untouched = λ k. absurd (omega (arith, k, z.0));
+            numbers = λ g q. absurd (ok_not_err z q);
+            place = λ g q. absurd (ok_not_err z q);
+            short = ((λ k. absurd (false≢true (sym (ap is_err z) ∙ k))), either (λ k. absurd (omega arith)) (λ k. absurd (omega arith)));
+            untouched = λ k. absurd (false≢true (sym (ap is_err z) ∙ k));
           }
       by (short h why) =
           let z = refused h in
           record {
-            numbers = inr (inl z.0);
-            place = (z.1, z.2);
-            short = ((λ k. why), (λ k. z.0));
-            untouched = λ k. (z.3, z.4);
+            numbers = λ g q. ap (λ (y : Fault). y.number) (same_fault q z.0);
+            place = λ g q. let y = same_fault q z.0 in (ap (λ (k : Fault). k.«record») y, ap (λ (k : Fault). k.column) y);
+            short = ((λ k. why), (λ k. ap is_err z.0));
+            untouched = λ k. (z.1, z.2);
           }
 
   -- ---- demand 2
@@ -95,15 +86,15 @@ module _ (f rs o s : List ℕ) (v : Pulled) (p t : List ℕ) (promised : Promise
     pub bytes : 81 * length rs ≤ length o
     pub places : length rs ≤ length s
 
-  drawn : v.fault.number ≡ 0 → Drawn
+  drawn : IsOk v → Drawn
   unfolding pull_output pull_faults
   drawn z = by (room rs o s)
     where
       by : Room rs o s → Drawn
       by (enough h a b) = record { lines = promised.written ∙ rw h; faults = promised.numbered ∙ rw h; bytes = a; places = b }
-      by (short h why) = absurd (omega (arith, z, (refused h).0))
+      by (short h why) = absurd (not_ok (refused h).0 z)
 
-  module _ (z : v.fault.number ≡ 0) where
+  module _ (z : IsOk v) where
     as_many : length (pulled_faults f rs) ≡ length rs
     unfolding pulled_faults
     as_many = length-map rs (pulled_fault f)
@@ -150,8 +141,9 @@ module _ (f rs o s : List ℕ) (v : Pulled) (p t : List ℕ) (promised : Promise
     }
 
 -- ---- an empty list is good with every output and every fault list, and touches neither
-pub empty_list : (f o s : List ℕ) (v : Pulled) (p t : List ℕ) → Promised f [] o s v p t → (v.fault.number ≡ 0) × (p ≡ o) × (t ≡ s)
+pub empty_list : (f o s : List ℕ) (v : Result (Unit {0}) Fault) (p t : List ℕ) → Promised f [] o s v p t → (v ≡ Ok tt) × (p ≡ o) × (t ≡ s)
 unfolding pulled_lines pulled_faults join
 empty_list f o s v p t promised =
-    let z : v.fault.number ≡ 0 = takes f [] o s v p t promised (omega arith) (omega arith) in
-    (z, (drawn f [] o s v p t promised z).lines, (drawn f [] o s v p t promised z).faults)
+    let room : pull_room [] o s ≡ true = roomy [] o s (omega arith) (omega arith) in
+    let z = done f [] o s v p t promised room in
+    (z, (drawn f [] o s v p t promised (ok_is z)).lines, (drawn f [] o s v p t promised (ok_is z)).faults)

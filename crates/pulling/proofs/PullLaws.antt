@@ -7,12 +7,13 @@ use native.Mathlib.Omega.{arith}
 use lib.Dec.{ltb}
 use lib.ListN.{length}
 use borrow.Author.Tests.{ltb-true, ltb-false}
+use Rattle.std.specs.Prelude.{Ok, Err}
 use Rattle.rules.specs.Tests.{◌&◌, ◌≤?◌}
 use Rattle.rules.specs.Pulling.{pull_room, pull_answer, pull_output, pull_faults}
 use Rattle.rules.proofs.Truth.{and, of≤, of>, cases, and_false}
 use Rattle.kinds.specs.Values.{fault_of}
-use Rattle.pulling.specs.declared.Pulled.{Pulled}
-use Rattle.pulling.specs.Promise.{pulled_of, answering}
+use Rattle.kinds.specs.declared.Fault.{Fault}
+use Rattle.pulling.specs.Promise.{pulled_of}
 use Rattle.pulling.specs.Entries.{Entries}
 
 neither : (a b : Bool) → (a || b) ≡ false → (a ≡ false) × (b ≡ false)
@@ -45,9 +46,9 @@ module _ (rs o s : List ℕ) (n : ℕ) (z : n ≡ length rs) (h : is_short o s n
       (λ a. short_output rs o s (omega (arith, z, ltb-true (length o / 81) n a)))
       (λ a. let b : ltb (length s) n ≡ true = rw a at h in short_list rs o s (omega (arith, z, ltb-true (length s) n b)))
 
-  pub refused_answer : (v : Pulled) → v ≡ answering 1 → v ≡ pulled_of (pull_answer rs o s)
+  pub refused_answer : {g : Fault} → g ≡ record { number = 1; «record» = 0; column = 0 } → Err g ≡ pulled_of (pull_answer rs o s)
   unfolding pull_answer pulled_of fault_of
-  refused_answer v e = e ∙ rw no_room
+  refused_answer e = rw (e, no_room)
 
   pub refused_output : (f : List ℕ) → o ≡ pull_output f rs o s
   unfolding pull_output
@@ -71,9 +72,9 @@ module _ (rs o s : List ℕ) (n : ℕ) (z : n ≡ length rs) (h : is_short o s n
   enough : pull_room rs o s ≡ true
   enough = roomy rs o s pull_room_lem pull_places
 
-  pub pulled_answer : (v : Pulled) → v ≡ answering 0 → v ≡ pulled_of (pull_answer rs o s)
+  pub pulled_answer : Ok tt ≡ pulled_of (pull_answer rs o s)
   unfolding pull_answer pulled_of fault_of
-  pulled_answer v e = e ∙ rw enough
+  pulled_answer = rw enough
 
   module _ (f p t : List ℕ) (x : Entries f rs o s p t) where
     pub pulled_output : p ≡ pull_output f rs o s

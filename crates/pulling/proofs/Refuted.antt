@@ -6,6 +6,7 @@ use Prim.Native.Nat.{ℕ, ◌+◌, ◌*◌, ◌≤◌, ◌<◌}
 use native.Mathlib.Omega.{arith}
 use lib.ListN.{length, take, get_or, replicate}
 use lib.IntN.{pos}
+use Rattle.std.specs.Prelude.{Result, IsOk}
 use Rattle.rules.specs.Items.{num, value_of}
 use Rattle.rules.specs.Records.{sequence}
 use Rattle.rules.specs.Files.{accepted, line_at}
@@ -14,7 +15,7 @@ use Rattle.rules.specs.Calls.{is_read, read_of}
 use Rattle.rules.specs.Pulling.{blank_line, pulled_line, pulled_fault}
 use Rattle.rules.proofs.PullingLaws.{blank_exactly}
 use Rattle.rules.proofs.PullingSamples.{sheaf, drawn, sheaf_refused}
-use Rattle.pulling.specs.declared.Pulled.{Pulled}
+use Rattle.kinds.specs.declared.Fault.{Fault}
 use Rattle.pulling.specs.Promise.{Promised}
 use Rattle.pulling.proofs.PullDemands.{takes, line_is, fault_is}
 
@@ -32,9 +33,9 @@ unfoldable places : List ℕ
 places = replicate 2 7
 
 -- a pull, whatever it does, that keeps the promise
-module _ (answer : (f rs o s : List ℕ) → Pulled) (output faults : (f rs o s : List ℕ) → List ℕ)
+module _ (answer : (f rs o s : List ℕ) → Result (Unit {0}) Fault) (output faults : (f rs o s : List ℕ) → List ℕ)
     (keeps : (f rs o s : List ℕ) → Promised f rs o s (answer f rs o s) (output f rs o s) (faults f rs o s)) where
-  zero : (rs : List ℕ) → length rs ≤ 2 → (answer sheaf rs bytes places).fault.number ≡ 0
+  zero : (rs : List ℕ) → length rs ≤ 2 → IsOk (answer sheaf rs bytes places)
   unfolding bytes places
   zero rs h = takes sheaf rs bytes places _ _ _ (keeps sheaf rs bytes places) (omega arith) (omega arith)
 
@@ -76,5 +77,5 @@ module _ (answer : (f rs o s : List ℕ) → Pulled) (output faults : (f rs o s 
   not_judging_the_file wrong = wrong sheaf (1 ∷ []) bytes places 0 sheaf_refused (omega arith) (fault (1 ∷ []) (omega arith) 0 (omega arith) ∙ sample.0)
 
   -- no answer because of one entry
-  pub not_refusing_for_an_entry : ((f rs o s : List ℕ) (i : ℕ) → i < length rs → is_read (read_of f (get_or rs i 0)) ≡ false → (answer f rs o s).fault.number ≡ 0 → ⊥) → ⊥
+  pub not_refusing_for_an_entry : ((f rs o s : List ℕ) (i : ℕ) → i < length rs → is_read (read_of f (get_or rs i 0)) ≡ false → IsOk (answer f rs o s) → ⊥) → ⊥
   not_refusing_for_an_entry wrong = wrong sheaf (0 ∷ []) bytes places 0 (omega arith) sample.4 (zero (0 ∷ []) (omega arith))

@@ -7,7 +7,7 @@ ghost use Rattle.rules.specs.Chapter4.{chapter4};
 ghost use Rattle.rules.specs.Calls.{read_as, read_of};
 ghost use Rattle.rules.specs.Pulling.{blank_line};
 ghost use Rattle.quick.specs.Rows.{class_table};
-ghost use Rattle.pulling.specs.Promise.{answering, Promised};
+ghost use Rattle.pulling.specs.Promise.{Promised};
 ghost use Rattle.kinds.specs.Values.{judged_of};
 ghost use Rattle.pulling.specs.Entries.{Entry, Entries};
 
@@ -20,12 +20,6 @@ use quick::tables::CLASSES;
 use reading::is_there;
 use reading::lines::line;
 use rewriting::style_lines;
-
-// Fault 1, or the number 0: what became of each entry stands in the fault list.
-#[derive(Clone, Copy)]
-pub struct Pulled {
-    pub fault: Fault,
-}
 
 // The fault of a record by itself. Hardly a record has one, so each is first tested as a whole.
 fn fault_in(line: &[u8], classes: &[[[u8; 80]; 5]; 14]) -> Result<(), Flaw>
@@ -100,27 +94,15 @@ fn pull_list(file: &[u8], records: &[u32], out: &mut [u8], faults: &mut [u32])
     pull_entries(file, records, &CLASSES, out, faults);
 }
 
-fn answer_with(number: u32) -> Pulled
-    ensures { result ≡ answering number }
-{
-    Pulled {
-        fault: Fault {
-            number,
-            record: 0,
-            column: 0,
-        },
-    }
-}
-
-// Fault 1 goes by lengths alone, and then nothing is touched. 81 times the entries of a list could be more than a number holds, so the
+// Fault 1 goes by lengths alone, and then nothing is touched; what became of each entry stands in the fault list. 81 times the entries of a list could be more than a number holds, so the
 // output is divided instead.
-pub fn pull(file: &[u8], records: &[u32], out: &mut [u8], faults: &mut [u32]) -> Pulled
+pub fn pull(file: &[u8], records: &[u32], out: &mut [u8], faults: &mut [u32]) -> Result<(), Fault>
     ensures { Promised file.now records.now out.old faults.old result out.new faults.new }
 {
     let n = records.len();
     if (out.len() / 81 < n) | (faults.len() < n) {
-        return answer_with(1);
+        return Err(Fault::new(1, 0, 0));
     }
     pull_list(file, records, out, faults);
-    answer_with(0)
+    Ok(())
 }

@@ -136,9 +136,23 @@ fn all_heights(rt: &impl Print) -> io::Result<()> {
     heights(rt, Height::Missing, b' ', b' ', Height::Missing, b' ')?;
     heights(rt, Height::Missing, b'A', b' ', Height::Missing, b' ')?;
     heights(rt, Height::Mm(0), b'A', b' ', Height::Missing, b' ')?;
-    heights(rt, Height::Mm(-1_000_000), b'A', b'Y', Height::Missing, b' ')?;
+    heights(
+        rt,
+        Height::Mm(-1_000_000),
+        b'A',
+        b'Y',
+        Height::Missing,
+        b' ',
+    )?;
     heights(rt, Height::Mm(-999_999), b'A', b'Y', Height::Mm(-500), b' ')?;
-    heights(rt, Height::Mm(10_000_000), b'A', b'Y', Height::Mm(-500), b'6')
+    heights(
+        rt,
+        Height::Mm(10_000_000),
+        b'A',
+        b'Y',
+        Height::Mm(-500),
+        b'6',
+    )
 }
 
 fn network(

@@ -7,11 +7,10 @@ ghost use Rattle.rules.specs.Chapter4.{chapter4};
 ghost use Rattle.rewriting.specs.Promise.{Promised};
 
 use judging::codes::kind_at;
-use kinds::Checked;
+use kinds::Fault;
 use reading::lines::{count_begun, line};
 use styling::styles::restyle;
 use walk::judge;
-use walk::records::refused;
 
 // Each record in house style, the first of them being record `first`, record r with the sequence number 10 x r. The lines are good, so none
 // is judged again.
@@ -29,15 +28,13 @@ pub fn style_lines(file: &[u8], first: u32, out: &mut [u8])
 }
 
 // Faults as form and references have them together, and the table as references. The output gets the rewritten file from its first byte on; a refusal leaves it as it was.
-pub fn rewrite(file: &[u8], table: &mut [u32], out: &mut [u8]) -> Checked
+pub fn rewrite(file: &[u8], table: &mut [u32], out: &mut [u8]) -> Result<[u32; 14], Fault>
     ensures { Promised file.now table.old out.old result table.new out.new }
 {
     if out.len() < file.len() {
-        return refused(1, 0, 0);
+        return Err(Fault::new(1, 0, 0));
     }
-    let v = judge(file, table);
-    if v.fault.number == 0 {
-        style_lines(file, 1, out);
-    }
-    v
+    let counts = judge(file, table)?;
+    style_lines(file, 1, out);
+    Ok(counts)
 }

@@ -210,14 +210,14 @@ module _ (f t : List ℕ) (given : Referable f t) (n i : ℕ) (g : Referring f n
       unfolding refer
       unrolled = rw (lines_more f n i h) at g.same
 
-      pub refer_fault : (w : Flaw) → j ≡ Err w → {x : Fault} → x ≡ record { number = w.number; «record» = i + 1; column = w.column } → x ≡ fault_of (reference_verdict chapter4 f)
+      pub refer_fault : (w : Flaw) → j ≡ Err w → {x : Fault} → x ≡ record { number = w.number; «record» = i + 1; column = w.column } → Err x ≡ fault_of (reference_verdict chapter4 f)
       unfolding in_record fault_of
-      refer_fault w q z = z ∙ ap fault_of (rw (bad_is _ w (sym judged ∙ q)) at unrolled)
+      refer_fault w q z = rw z (ap fault_of (rw (bad_is _ w (sym judged ∙ q)) at unrolled))
 
       pub refer_on : j ≡ Ok tt → Referring f n (i + 1)
       unfolding in_record
       refer_on q = record { count = g.count; form = fine.1; same = rw (good_is _ (sym judged ∙ q)) at unrolled }
 
-  pub refer_done : n ≤ i → record { number = 0; «record» = 0; column = 0 } ≡ fault_of (reference_verdict chapter4 f)
+  pub refer_done : n ≤ i → Ok tt ≡ fault_of (reference_verdict chapter4 f)
   unfolding refer fault_of
   refer_done h = ap fault_of (rw (lines_none f n i h) at g.same)

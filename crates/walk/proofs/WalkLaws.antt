@@ -14,7 +14,6 @@ use Rattle.rules.specs.Order.{nothing, goto}
 use Rattle.rules.specs.Files as files
 use Rattle.rules.specs.Files.{accept, refuse, is_accept, in_record, line_at, begun, lines_from, lines, meanings, walk}
 use Rattle.rules.specs.References.{stations, instruments, antennas, is_a, number_at, mark, slot_of, filled, tally, counts}
-use Rattle.rules.specs.Calls.{answer}
 use Rattle.rules.specs.Chapter4.{Past, at_start, may_stand, latest, after, ordered, chapter4}
 use Rattle.rules.proofs.Truth.{both, and, to≤, to≡, of≡, no≡, of≢, cases}
 use Rattle.rules.proofs.FieldLaws.{is_ok_⨾, is_ok_check}
@@ -22,14 +21,13 @@ use Rattle.rules.proofs.RecordLaws.{judge_line_splits}
 use Rattle.rules.proofs.FileLaws.{lines_more, lines_none}
 use Rattle.rules.proofs.TableLaws.{count_at, length-mark}
 use Rattle.rules.proofs.ReferenceLaws.{stations_in, instruments_in, antennas_in, length-tabulate}
-use Rattle.kinds.specs.declared.Checked.{Checked}
-use Rattle.kinds.specs.Values.{checked_of}
+use Rattle.kinds.specs.declared.Fault.{Fault}
 use Rattle.walk.specs.declared.kept.Kept.{Kept}
 use Rattle.std.specs.Prelude.{Result, Ok, Err}
 use Rattle.kinds.specs.declared.Flaw.{Flaw}
 use Rattle.walk.specs.Keeping.{job_of, past_of, at_first, latest_in, moved_of}
 use Rattle.walk.specs.Words.{lead_in, slot_in}
-use Rattle.walk.specs.Walking.{refusal, judge_at, stepped, step_of, Walked}
+use Rattle.walk.specs.Walking.{answer_of, judge_at, stepped, step_of, Walked}
 use Rattle.walk.proofs.KeptLaws.{spelled}
 use Rattle.walk.proofs.NumberLaws.{lead_of_25, lead_of, its_kind, its_slot}
 
@@ -113,11 +111,13 @@ module _ (rows : List (List ℕ)) (last : ℕ) (s : Kept) (r : ℕ) (l : List �
     step_past = ap past_of (sym (stepped_moves _ _ u (sym e ∙ q))) ∙ (unfold meaning in moved_past rows last s l fine.1 (kind_of (code_at l)) refl)
 
 -- ---- answers
-pub refused_is : (m r c : ℕ) (x : files.Result) (ms : List Meaning) → refuse m r c ≡ x → refusal m r c ≡ checked_of (answer x ms)
-refused_is m r c x ms e = subst (λ (y : files.Result). refusal m r c ≡ checked_of (answer y ms)) e (unfold answer checked_of in refl)
+pub refused_is : (m r c : ℕ) (x : files.Result) (ms : List Meaning) → refuse m r c ≡ x → Err record { number = m; «record» = r; column = c } ≡ answer_of x ms
+unfolding answer_of
+refused_is m r c x ms e = rw (← e)
 
-pub accepted_is : (x : files.Result) (ms : List Meaning) → accept ≡ x → record { fault = record { number = 0; «record» = 0; column = 0 }; counts = counts ms } ≡ checked_of (answer x ms)
-accepted_is x ms e = subst (λ (y : files.Result). record { fault = record { number = 0; «record» = 0; column = 0 }; counts = counts ms } ≡ checked_of (answer y ms)) e (unfold answer checked_of in refl)
+pub accepted_is : (x : files.Result) (ms : List Meaning) → accept ≡ x → Ok (counts ms) ≡ answer_of x ms
+unfolding answer_of
+accepted_is x ms e = rw (← e)
 
 pub refused-not : (m r c : ℕ) (x : files.Result) → refuse m r c ≡ x → is_accept x ≡ true → ⊥
 unfolding is_accept
@@ -196,7 +196,7 @@ module _ (rows : List (List ℕ)) (last : ℕ) (f : List ℕ) (n : ℕ) (t₀ t 
     here : walk E (past_of s) (i + 1) (line_at f i ∷ lines_from f (n - (i + 1)) (i + 1)) ≡ walk E at_start 1 (lines f)
     here = rw (lines_more f n i h) at g.same
 
-    pub go_fault : (w : Flaw) → a ≡ Err w → {v : Checked} → v ≡ refusal w.number (i + 1) w.column → Walked E f v t₀ t
+    pub go_fault : (w : Flaw) → a ≡ Err w → {v : Result (List ℕ) Fault} → v ≡ Err record { number = w.number; «record» = i + 1; column = w.column } → Walked E f v t₀ t
     go_fault x q w =
         let m = x.number in
         let c = x.column in
@@ -252,10 +252,10 @@ module _ (rows : List (List ℕ)) (last : ℕ) (f : List ℕ) (n : ℕ) (t₀ t 
     unfolding walk past_of
     ended = rw (lines_none f n i h) at g.same
 
-    pub go_short : (s.place ≡ last → ⊥) → i ≤ n → {v : Checked} → v ≡ refusal 8 (n + 1) 1 → Walked E f v t₀ t
+    pub go_short : (s.place ≡ last → ⊥) → i ≤ n → {b : Fault} → b ≡ record { number = 8; «record» = n + 1; column = 1 } → Walked E f (Err b) t₀ t
     go_short e b w' =
         let all : n ≡ i = omega arith in
-        let w = w' ∙ ap (λ k. refusal 8 (k + 1) 1) all in
+        let w : ◌≡◌ {A = Result (List ℕ) Fault} (Err _) (Err record { number = 8; «record» = i + 1; column = 1 }) = ap Err (w' ∙ ap (λ k. record { number = 8; «record» = k + 1; column = 1 }) all) in
         let z : refuse 8 (i + 1) 1 ≡ walk E at_start 1 (lines f) = rw (of≢ e) at ended in
         record {
           first = w ∙ refused_is 8 (i + 1) 1 _ (meanings E f) z;
@@ -270,7 +270,7 @@ module _ (rows : List (List ℕ)) (last : ℕ) (f : List ℕ) (n : ℕ) (t₀ t 
         told : (k : ℕ) → k < 14 → get_or cs k 0 ≡ get_or (counts (meanings E f)) k 0
         told k y = let z : get_or cs k 0 + 0 ≡ tally k (meanings E f) = unfold tally in (rw (lines_none f n i h) at (g.counting k y)) in omega (arith, z, count_at (meanings E f) k y)
 
-    pub go_good : s.place ≡ last → Walked E f record { fault = record { number = 0; «record» = 0; column = 0 }; counts = cs } t₀ t
+    pub go_good : s.place ≡ last → Walked E f (Ok cs) t₀ t
     go_good e =
         let z : accept ≡ walk E at_start 1 (lines f) = rw (of≡ e) at ended in
         record {

@@ -1,23 +1,24 @@
 -- The walk over the records, and what it leaves in the table.
-use Rattle.std.specs.Prelude.{◌≡◌, true, cond, List, ℕ, length, get_or, replicate, Result, Ok, Err}
-use Rattle.rules.specs.Tests.{◌≤?◌, ◌=?◌}
+use Rattle.std.specs.Prelude.{◌≡◌, true, cond, List, ℕ, length, get_or, Result, Ok, Err}
+use Rattle.rules.specs.Tests.{◌≤?◌}
 use Rattle.rules.specs.Fields.{Verdict, ok, fault, check, ◌⨾◌}
-use Rattle.rules.specs.Records.{Edition, code_at, judge_line}
+use Rattle.rules.specs.Records.{Edition, Meaning, code_at, judge_line}
 use Rattle.rules.specs.Kinds.{kind_of}
 use Rattle.rules.specs.Order.{last_job, goto}
-use Rattle.rules.specs.Files.{is_accept, meanings, form_verdict, verdict}
-use Rattle.rules.specs.References.{words, filled}
-use Rattle.rules.specs.Calls.{answer}
+use Rattle.rules.specs.Files as files
+use Rattle.rules.specs.Files.{accept, refuse, is_accept, meanings, form_verdict, verdict}
+use Rattle.rules.specs.References.{words, counts, filled}
 use Rattle.rules.specs.Chapter4.{ordered, chapter4}
 use Rattle.kinds.specs.declared.Flaw.{Flaw}
-use Rattle.kinds.specs.declared.Checked.{Checked}
-use Rattle.kinds.specs.Values.{checked_of}
+use Rattle.kinds.specs.declared.Fault.{Fault}
 use Rattle.walk.specs.declared.kept.Kept.{Kept}
 use Rattle.walk.specs.Keeping.{past_of, moved_of}
 use Rattle.walk.specs.Words.{no_words, lead_in}
 
-abbrev pub refusal : ℕ → ℕ → ℕ → Checked
-refusal n r c = record { fault = record { number = n; «record» = r; column = c }; counts = replicate 14 0 }
+-- a verdict on a file with the counts of its records
+unfoldable pub answer_of : files.Result → List Meaning → Result (List ℕ) Fault
+answer_of accept ms = Ok (counts ms)
+answer_of (refuse n r c) ms = Err record { number = n; «record» = r; column = c }
 
 -- 01, "Order": 2, then the line's own, by any rows; where a file ends makes no difference to a line
 unfoldable pub judge_at : (rows : List (List ℕ)) → Kept → ℕ → List ℕ → Verdict
@@ -34,14 +35,15 @@ step_of rows s r l =
     stepped (judge_at rows s r l) (moved_of s (goto rows s.place k) k (get_or l 7 0) (get_or l 8 0) (lead_in k l))
 
 -- what the walk answers of a file, and the words t that it leaves of t₀; after a fault they are not looked at again
-pub record Walked {S : Type 0} (E : Edition S) (f : List ℕ) (v : Checked) (t₀ t : List ℕ) : Type 0 where
-  pub first : v ≡ checked_of (answer (form_verdict E f) (meanings E f))
+pub record Walked {S : Type 0} (E : Edition S) (f : List ℕ) (v : Result (List ℕ) Fault) (t₀ t : List ℕ) : Type 0 where
+  pub first : v ≡ answer_of (form_verdict E f) (meanings E f)
   pub size : length t ≡ length t₀
   pub filling : is_accept (form_verdict E f) ≡ true → t ≡ filled 1 (meanings E f) t₀
 
 -- a refusal leaves zeros
-unfoldable pub settled_of : ℕ → List ℕ → List ℕ
-settled_of number t = cond (number =? 0) t no_words
+unfoldable pub settled_of : Result (Unit {0}) Fault → List ℕ → List ℕ
+settled_of (Ok x) t = t
+settled_of (Err g) t = no_words
 
 -- the first 12,000 words in the end
 unfoldable pub table_after : List ℕ → List ℕ

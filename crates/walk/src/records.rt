@@ -7,7 +7,7 @@ ghost use Rattle.rules.specs.Chapter4.{ordered};
 ghost use Rattle.kinds.specs.Values.{judged_of};
 ghost use Rattle.quick.specs.Rows.{class_table};
 ghost use Rattle.walk.specs.Keeping.{tabular};
-ghost use Rattle.walk.specs.Walking.{refusal, judge_at, step_of, Walked};
+ghost use Rattle.walk.specs.Walking.{judge_at, step_of, Walked};
 
 use crate::kept::{Kept, expect, is_foreign, moved};
 use crate::order::look_up;
@@ -15,22 +15,9 @@ use crate::words::{leading, mark_record};
 use columns::parts::byte_at;
 use judging::codes::kind_at;
 use judging::lines::{judge_bytes, judge_rest};
-use kinds::{Checked, Fault, Flaw};
+use kinds::{Fault, Flaw};
 use quick::fits;
 use reading::lines::{count_begun, line};
-
-pub fn refused(number: u32, record: usize, column: usize) -> Checked
-    ensures { result ≡ refusal number «record» column }
-{
-    Checked {
-        fault: Fault {
-            number,
-            record,
-            column,
-        },
-        counts: [0u32; 14],
-    }
-}
 
 // Record r, judged test by test.
 fn judge_placed(
@@ -109,7 +96,7 @@ pub(crate) fn walk_records(
     rows: &[[u8; 14]; 17],
     last: usize,
     classes: &[[[u8; 80]; 5]; 14],
-) -> Checked
+) -> Result<[u32; 14], Fault>
     requires { (length words.old ≤ 12_000) × (tabular rows.now ≡ true) × (classes.now ≡ class_table) }
     ensures { Walked (ordered rows.now last) file.now result words.old words.new }
 {
@@ -127,26 +114,13 @@ pub(crate) fn walk_records(
     for i in 0..n {
         let l = line(file, i);
         let kind = kind_at(l);
-        match step(rows, s, i + 1, l, kind, classes) {
-            Err(flaw) => {
-                return refused(flaw.number, i + 1, flaw.column);
-            }
-            Ok(t) => {
-                s = t;
-            }
-        }
+        let r = i + 1;
+        s = step(rows, s, r, l, kind, classes).map_err(|flaw| flaw.in_record(r))?;
         counts[kind] = counts[kind] + 1;
-        mark_record(words, l, kind, i as u32 + 1);
+        mark_record(words, l, kind, r as u32);
     }
     if s.place != last {
-        return refused(8, n + 1, 1);
+        return Err(Fault::new(8, n + 1, 1));
     }
-    Checked {
-        fault: Fault {
-            number: 0,
-            record: 0,
-            column: 0,
-        },
-        counts,
-    }
+    Ok(counts)
 }

@@ -95,7 +95,7 @@ fn judge_references(words: &[u32], r: usize, line: &[u8], kind: usize) -> Result
 }
 
 // The first of these faults.
-pub(crate) fn refer_records(file: &[u8], words: &[u32]) -> Fault
+pub(crate) fn refer_records(file: &[u8], words: &[u32]) -> Result<(), Fault>
     requires { Referable file.now words.now }
     ensures { result ≡ fault_of (reference_verdict chapter4 file.now) }
 {
@@ -103,13 +103,8 @@ pub(crate) fn refer_records(file: &[u8], words: &[u32]) -> Fault
     for i in 0..n {
         let l = line(file, i);
         let kind = kind_at(l);
-        if let Err(flaw) = judge_references(words, i + 1, l, kind) {
-            return flaw.in_record(i + 1);
-        }
+        let r = i + 1;
+        judge_references(words, r, l, kind).map_err(|flaw| flaw.in_record(r))?;
     }
-    Fault {
-        number: 0,
-        record: 0,
-        column: 0,
-    }
+    Ok(())
 }

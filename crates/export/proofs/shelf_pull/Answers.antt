@@ -7,7 +7,7 @@ pub returns-then-answer-lt3 : goal.returns-then-answer-lt3
 returns-then-answer-lt3 c = search (short_pull, rules)
 
 pub put_fault-requires : goal.put_fault-requires
-put_fault-requires c = (search rules, search (pull_small, rules))
+put_fault-requires c = (search rules, rw c.fault_in.ensures (search (pull_small, rules)))
 
 pub returns : goal.returns
 returns c = search (long_pull, rules)

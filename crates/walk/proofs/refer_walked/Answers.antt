@@ -2,8 +2,8 @@ use borrow.Author.Rules.{rules}
 use Rattle.walk.proofs.JudgeLaws.{fourteen, referred, referable}
 use Rattle.walk.proofs.refer_walked.Goals as goal
 
-pub returns-then-form-ne0 : goal.returns-then-form-ne0
-returns-then-form-ne0 c = search (fourteen, rules)
+pub returns-then-is_err : goal.returns-then-is_err
+returns-then-is_err c = search (fourteen, rules)
 
 pub refer_records-requires : goal.refer_records-requires
 refer_records-requires c = search (referable, rules)
