@@ -21,7 +21,7 @@ use Rattle.padding.specs.Lines.{feed_at, text_length}
 use Rattle.padding.specs.Walks.{lines_ahead, too_long, long_ahead, sum, Passed, Told, Halved}
 use Rattle.padding.proofs.FeedLaws.{feed_most, lent_rest}
 use Rattle.padding.proofs.TextLaws.{texts_split}
-use Rattle.padding.proofs.PassLaws.{no_texts, window, next_text, text_size}
+use Rattle.padding.proofs.PassLaws.{no_texts, window, next_text, text_size, answer_is}
 
 -- ---- numbers added up
 module _ (g : ℕ → ℕ) where
