@@ -6,9 +6,10 @@ use columns::{Four, Media};
 pub mod accuracies;
 pub mod tables;
 
-ghost use Rattle.std.specs.Prelude.{◌≡◌};
+ghost use Rattle.std.specs.Prelude.{◌≡◌, ◌<◌};
 ghost use Rattle.rules.specs.Tests.{◌&◌};
 ghost use Rattle.rules.specs.Characters.{is_letter, letter, digit, ◌or◌, member};
+ghost use Rattle.kinds.specs.Values.{kind_index};
 
 // Two characters.
 #[derive(Clone, Copy)]
@@ -703,6 +704,35 @@ impl Factor {
             horizontal: horizontal,
             vertical: vertical,
         }
+    }
+}
+
+// The kind of a record, in 01's order.
+#[derive(Clone, Copy, PartialEq, Eq)]
+pub enum Kind {
+    Job,
+    Title,
+    Continuation,
+    Project,
+    Occupation,
+    Comment,
+    Measurement,
+    Instrument,
+    Antenna,
+    Point,
+    Heights,
+    Network,
+    Local,
+    Factor,
+}
+
+impl Kind {
+    // 01's number of it.
+    pub fn index(self) -> usize
+        ensures value { result ≡ kind_index self }
+        ensures small { result < 14 }
+    {
+        self as usize
     }
 }
 
