@@ -4,7 +4,8 @@ use mathlib.Core.List.{List, [], ◌∷◌}
 use Prim.Native.Nat.{ℕ, ◌<◌}
 use lib.Dec.{lit≤}
 use lib.ListN.{get_or}
-use Rattle.std.specs.Prelude.{Option, Some, None}
+use Rattle.std.specs.Prelude.{Option, Some, None, Ok, Err}
+use Rattle.std.specs.Option.{ok_or}
 use Rattle.kinds.specs.declared.Kind.{Kind}
 use Rattle.kinds.specs.declared.Kind.TheVariants as K
 use Rattle.kinds.specs.Values.{kind_index, kind_in}
@@ -77,3 +78,12 @@ some_kind r k n e q = sym (ap kind_in q) ∙ e
 pub no_kind : (r : Option Kind) (n : ℕ) → kind_in r ≡ n → r ≡ None → n ≡ 14
 unfolding kind_in
 no_kind r n e q = sym e ∙ ap kind_in q
+
+-- what `ok_or` was asked of
+pub ok_or_some : {T E : Type 0} (r : Option T) (e : E) {x : T} → ok_or r e ≡ Ok x → r ≡ Some x
+ok_or_some None e p = absurd cc
+ok_or_some (Some y) e p = cc
+
+pub ok_or_none : {T E : Type 0} (r : Option T) (e : E) {w : E} → ok_or r e ≡ Err w → (r ≡ None) × (w ≡ e)
+ok_or_none None e p = (refl, cc)
+ok_or_none (Some y) e p = absurd cc
