@@ -1,11 +1,15 @@
 -- A kind and its number: each of the fourteen has one below 14, and no other kind, nor none, has it.
-use mathlib.Core.Path.{◌≡◌, refl, sym, ap, ◌∙◌}
+use mathlib.Core.Path.{◌≡◌, refl, sym, ap, ap₂, ◌∙◌}
 use mathlib.Core.List.{List, [], ◌∷◌}
 use Prim.Native.Nat.{ℕ, ◌<◌}
-use lib.Dec.{lit≤}
+use lib.Dec.{lit≤, eqb}
+use denote.Enum.Declared.{tag_of}
+use denote.Enum.Bare.{sameb}
+use native.Mathlib.Omega.{arith}
 use lib.ListN.{get_or}
-use Rattle.std.specs.Prelude.{Option, Some, None, Ok, Err}
+use Rattle.std.specs.Prelude.{Option, Some, None, IsSome, Result, Ok, Err}
 use Rattle.std.specs.Option.{ok_or}
+use Rattle.kinds.specs.contracts.Kind.{the_type}
 use Rattle.kinds.specs.declared.Kind.{Kind}
 use Rattle.kinds.specs.declared.Kind.TheVariants as K
 use Rattle.kinds.specs.Values.{kind_index, kind_in}
@@ -44,6 +48,14 @@ index_small K.Network = lit≤ tt
 index_small K.Local = lit≤ tt
 index_small K.Factor = lit≤ tt
 
+-- the compiler numbers them so, and compares the numbers
+pub tag_is : (k : Kind) → tag_of the_type k ≡ kind_index k
+unfolding kind_index
+tag_is = every_kind (λ k. tag_of the_type k ≡ kind_index k) refl refl refl refl refl refl refl refl refl refl refl refl refl refl
+
+pub same_index : (k j : Kind) → sameb the_type k j ≡ eqb (kind_index k) (kind_index j)
+same_index k j = ap₂ eqb (tag_is k) (tag_is j)
+
 -- the kind of a number
 abbrev with_index : ℕ → Option Kind
 with_index n = get_or (Some K.Job ∷ Some K.Title ∷ Some K.Continuation ∷ Some K.Project ∷ Some K.Occupation ∷ Some K.Comment ∷ Some K.Measurement ∷ Some K.Instrument ∷ Some K.Antenna ∷ Some K.Point ∷ Some K.Heights ∷ Some K.Network ∷ Some K.Local ∷ Some K.Factor ∷ []) n None
@@ -78,6 +90,18 @@ some_kind r k n e q = sym (ap kind_in q) ∙ e
 pub no_kind : (r : Option Kind) (n : ℕ) → kind_in r ≡ n → r ≡ None → n ≡ 14
 unfolding kind_in
 no_kind r n e q = sym e ∙ ap kind_in q
+
+-- a number below 14 is that of some kind
+pub is_some : (r : Option Kind) (n : ℕ) → kind_in r ≡ n → n < 14 → IsSome r
+is_some None n e h = absurd (omega (arith, no_kind None n e refl))
+is_some (Some k) n e h = refl
+
+-- another kind has another number
+pub other_index : (k j : Kind) → (k ≡ j → ⊥) → kind_index k ≡ kind_index j → ⊥
+other_index k j h e = h (some_is (same_kind (Some k) (Some j) (unfold kind_in in e)))
+  where
+    some_is : Some k ≡ Some j → k ≡ j
+    some_is q = cc
 
 -- what `ok_or` was asked of
 pub ok_or_some : {T E : Type 0} (r : Option T) (e : E) {x : T} → ok_or r e ≡ Ok x → r ≡ Some x

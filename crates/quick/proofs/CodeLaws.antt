@@ -11,7 +11,11 @@ use borrow.Author.Tests.{eqb-true}
 use Rattle.rules.specs.Tests.{◌≤?◌, ◌=?◌, all}
 use Rattle.rules.specs.Fields.{Expect, meets}
 use Rattle.rules.proofs.Truth.{to≤, no≤, cases, above_0, both_true}
+use Rattle.kinds.specs.declared.Kind.{Kind}
+use Rattle.kinds.specs.declared.Kind.TheVariants as K
+use Rattle.kinds.specs.Values.{kind_index}
 use Rattle.kinds.specs.Tables.{row_lists}
+use Rattle.kinds.proofs.KindLaws.{index_small, other_index}
 use Rattle.quick.specs.Rows.{class_table, col_at, five_at, Columns, text_at, five_texts, Texts, is_text}
 use Rattle.quick.specs.Rest.{low_val, some, between, not_zero, media_rest, zeros, alike, datum_rest, latitude_rest, longitude_rest, correlation_rest, sequence_rest, item_rest, bond_rest, rest_from, Fit}
 use Rattle.quick.proofs.ClassLaws.{spread, spread_is}
@@ -183,12 +187,12 @@ module _ (e : Expect) (l : List ℕ) where
   unfolding rest_from item_rest bond_rest
   local_is p q r s t = rw (p, q, r, s, t)
 
-  pub kind_rest : (kind j : ℕ) → kind ≡ j → (t : Bool) → t ≡ rest_from true e l (get_or row_lists j []) → t ≡ true → rest_from true e l (get_or row_lists kind []) ≡ true
+  pub kind_rest : (k j : Kind) → k ≡ j → (t : Bool) → t ≡ rest_from true e l (get_or row_lists (kind_index j) []) → t ≡ true → rest_from true e l (get_or row_lists (kind_index k) []) ≡ true
   kind_rest kind j z t h k = rw z (sym h ∙ k)
 
 -- ---- the kind that is all text, *26*
-pub text_rest : (e : Expect) (l : List ℕ) (kind : ℕ) → kind ≡ 5 → true ≡ true → rest_from true e l (get_or row_lists kind []) ≡ true
-unfolding rest_from item_rest bond_rest
+pub text_rest : (e : Expect) (l : List ℕ) (kind : Kind) → kind ≡ K.Comment → true ≡ true → rest_from true e l (get_or row_lists (kind_index kind) []) ≡ true
+unfolding rest_from item_rest bond_rest kind_index
 text_rest e l kind z t = rw z
 
 text_kind : (k : ℕ) → is_text k ≡ true → TextFrom17 (get_or class_table k [])
@@ -203,9 +207,12 @@ module _ (l : List ℕ) (k : ℕ) (t : List (List (List ℕ))) (c : t ≡ class_
   pub texts_fit : (i : Bool) → i ≡ is_text k → i ≡ true → (a : Bool) → (a ≡ true → Texts (get_or t k []) l) → a ≡ true → Columns (get_or class_table k []) l
   texts_fit i p z a f q = texts-columns (get_or class_table k []) l (text_kind k (sym p ∙ z)) (rw c at (f q))
 
-pub fits_whole : (e : Expect) (l : List ℕ) (k : ℕ) → (k ≡ 0 → ⊥) → k < 14 → 80 < length l → (a : Bool) → (a ≡ true → Columns (get_or class_table k []) l) → (b : Bool) → b ≡ sequence_rest l
-    → (d : Bool) → (d ≡ true → rest_from true e l (get_or row_lists k []) ≡ true) → (a && b && eqb (get_or l 80 0) 10 && d) ≡ true → Fit l k e
-fits_whole e l k low high long a f b s d g h =
+pub fits_whole : (e : Expect) (l : List ℕ) (kind : Kind) → (kind ≡ K.Job → ⊥) → 80 < length l → (a : Bool) → (a ≡ true → Columns (get_or class_table (kind_index kind) []) l) → (b : Bool) → b ≡ sequence_rest l
+    → (d : Bool) → (d ≡ true → rest_from true e l (get_or row_lists (kind_index kind) []) ≡ true) → (a && b && eqb (get_or l 80 0) 10 && d) ≡ true → Fit l (kind_index kind) e
+fits_whole e l kind other long a f b s d g h =
+    let k = kind_index kind in
+    let high = index_small kind in
+    let low : k ≡ 0 → ⊥ = λ q. other_index kind K.Job other (q ∙ (unfold kind_index in refl)) in
     let x = both_true (a && b && eqb (get_or l 80 0) 10) d h in
     let y = both_true (a && b) (eqb (get_or l 80 0) 10) x.0 in
     let z = both_true a b y.0 in

@@ -1,34 +1,44 @@
 use mathlib.Core.Bool.{false≢true}
 use borrow.Author.Rules.{rules}
+use Rattle.kinds.specs.Values.{kind_index}
 use Rattle.quick.proofs.CodeLaws.{kind_rest, text_rest}
 use Rattle.quick.proofs.values.has_values.Goals as goal
 
-pub returns-in-4 : goal.returns-in-4
-returns-in-4 c = search (kind_rest, rules)
+pub returns-in-Occupation : goal.returns-in-Occupation
+unfolding kind_index
+returns-in-Occupation c = search (kind_rest, rules)
 
-pub returns-in-5 : goal.returns-in-5
-returns-in-5 c = search (text_rest, rules)
+pub returns-in-Comment : goal.returns-in-Comment
+unfolding kind_index
+returns-in-Comment c = search (text_rest, rules)
 
-pub returns-in-6 : goal.returns-in-6
-returns-in-6 c = search (kind_rest, rules)
+pub returns-in-Measurement : goal.returns-in-Measurement
+unfolding kind_index
+returns-in-Measurement c = search (kind_rest, rules)
 
-pub returns-in-7 : goal.returns-in-7
-returns-in-7 c = search (kind_rest, rules)
+pub returns-in-Instrument : goal.returns-in-Instrument
+unfolding kind_index
+returns-in-Instrument c = search (kind_rest, rules)
 
-pub returns-in-8 : goal.returns-in-8
-returns-in-8 c = search (kind_rest, rules)
+pub returns-in-Antenna : goal.returns-in-Antenna
+unfolding kind_index
+returns-in-Antenna c = search (kind_rest, rules)
 
-pub returns-in-9 : goal.returns-in-9
-returns-in-9 c = search (kind_rest, rules)
+pub returns-in-Point : goal.returns-in-Point
+unfolding kind_index
+returns-in-Point c = search (kind_rest, rules)
 
-pub returns-in-10 : goal.returns-in-10
-returns-in-10 c = search (kind_rest, rules)
+pub returns-in-Heights : goal.returns-in-Heights
+unfolding kind_index
+returns-in-Heights c = search (kind_rest, rules)
 
-pub returns-in-11 : goal.returns-in-11
-returns-in-11 c = search (kind_rest, rules)
+pub returns-in-Network : goal.returns-in-Network
+unfolding kind_index
+returns-in-Network c = search (kind_rest, rules)
 
-pub returns-in-12 : goal.returns-in-12
-returns-in-12 c = search (kind_rest, rules)
+pub returns-in-Local : goal.returns-in-Local
+unfolding kind_index
+returns-in-Local c = search (kind_rest, rules)
 
 pub returns-in_default : goal.returns-in_default
 returns-in_default c = λ q. absurd (false≢true q)
