@@ -7,15 +7,17 @@ use native.Mathlib.Omega.{arith}
 use lib.Dec.{leb, eqb}
 use lib.ListN.{length, get_or, take, drop, replicate, get_or-replicate}
 use lib.Seq.{get_or-drop}
-use borrow.Author.Tests.{eqb-true}
+use borrow.Author.Tests.{eqb-true, eqb-false}
 use Rattle.rules.specs.Tests.{◌≤?◌, ◌=?◌, all}
 use Rattle.rules.specs.Fields.{Expect, meets}
 use Rattle.rules.proofs.Truth.{to≤, no≤, cases, above_0, both_true}
+use denote.Enum.Bare.{sameb}
+use Rattle.kinds.specs.contracts.Kind.{the_type}
 use Rattle.kinds.specs.declared.Kind.{Kind}
 use Rattle.kinds.specs.declared.Kind.TheVariants as K
 use Rattle.kinds.specs.Values.{kind_index}
 use Rattle.kinds.specs.Tables.{row_lists}
-use Rattle.kinds.proofs.KindLaws.{index_small, other_index}
+use Rattle.kinds.proofs.KindLaws.{index_small, same_index}
 use Rattle.quick.specs.Rows.{class_table, col_at, five_at, Columns, text_at, five_texts, Texts, is_text}
 use Rattle.quick.specs.Rest.{low_val, some, between, not_zero, media_rest, zeros, alike, datum_rest, latitude_rest, longitude_rest, correlation_rest, sequence_rest, item_rest, bond_rest, rest_from, Fit}
 use Rattle.quick.proofs.ClassLaws.{spread, spread_is}
@@ -200,19 +202,22 @@ unfolding is_text
 text_kind k h = rw (eqb-true k 5 h) record { low = refl; high = refl; free = refl }
 
 -- ---- the columns, and the whole
-module _ (l : List ℕ) (k : ℕ) (t : List (List (List ℕ))) (c : t ≡ class_table) where
-  pub columns_fit : (a : Bool) → (a ≡ true → Columns (get_or t k []) l) → a ≡ true → Columns (get_or class_table k []) l
-  columns_fit a f q = rw c at (f q)
+module _ (l : List ℕ) (kind : Kind) (k : ℕ) (i : k ≡ kind_index kind) (t : List (List (List ℕ))) (c : t ≡ class_table) where
+  pub columns_fit : (a : Bool) → (a ≡ true → Columns (get_or t k []) l) → a ≡ true → Columns (get_or class_table (kind_index kind) []) l
+  columns_fit a f q = rw (c, i) at (f q)
 
-  pub texts_fit : (i : Bool) → i ≡ is_text k → i ≡ true → (a : Bool) → (a ≡ true → Texts (get_or t k []) l) → a ≡ true → Columns (get_or class_table k []) l
-  texts_fit i p z a f q = texts-columns (get_or class_table k []) l (text_kind k (sym p ∙ z)) (rw c at (f q))
+  pub texts_fit : (b : Bool) → b ≡ is_text (kind_index kind) → b ≡ true → (a : Bool) → (a ≡ true → Texts (get_or t k []) l) → a ≡ true → Columns (get_or class_table (kind_index kind) []) l
+  texts_fit b p z a f q = texts-columns (get_or class_table (kind_index kind) []) l (text_kind (kind_index kind) (sym p ∙ z)) (rw (c, i) at (f q))
 
-pub fits_whole : (e : Expect) (l : List ℕ) (kind : Kind) → (kind ≡ K.Job → ⊥) → 80 < length l → (a : Bool) → (a ≡ true → Columns (get_or class_table (kind_index kind) []) l) → (b : Bool) → b ≡ sequence_rest l
+pub no_job : (k : Kind) (b : Bool) → b ≡ sameb the_type k K.Job → b ≡ false → kind_index k ≡ 0 → ⊥
+unfolding kind_index
+no_job k b e h z = eqb-false (kind_index k) 0 (sym (e ∙ same_index k K.Job) ∙ h) z
+
+pub fits_whole : (e : Expect) (l : List ℕ) (kind : Kind) → (kind_index kind ≡ 0 → ⊥) → 80 < length l → (a : Bool) → (a ≡ true → Columns (get_or class_table (kind_index kind) []) l) → (b : Bool) → b ≡ sequence_rest l
     → (d : Bool) → (d ≡ true → rest_from true e l (get_or row_lists (kind_index kind) []) ≡ true) → (a && b && eqb (get_or l 80 0) 10 && d) ≡ true → Fit l (kind_index kind) e
-fits_whole e l kind other long a f b s d g h =
+fits_whole e l kind low long a f b s d g h =
     let k = kind_index kind in
     let high = index_small kind in
-    let low : k ≡ 0 → ⊥ = λ q. other_index kind K.Job other (q ∙ (unfold kind_index in refl)) in
     let x = both_true (a && b && eqb (get_or l 80 0) 10) d h in
     let y = both_true (a && b) (eqb (get_or l 80 0) 10) x.0 in
     let z = both_true a b y.0 in

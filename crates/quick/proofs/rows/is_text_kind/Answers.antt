@@ -1,8 +1,10 @@
-use Rattle.std.proofs.Common.{rules, ◌≡◌, true, ◌&&◌, [], ◌<◌, leb, length, get_or, ℕ, ◌+◌, ◌-◌, ◌*◌, ◌≤◌, ◌/◌, ◌%◌, Bool, false, nat_eq, nat_lt, List, ◌∷◌, ◌++◌, slice_set, bit_and, bit_or, Fits, w8, w32, w64, Bor, MutBor}
-use Rattle.quick.specs.Rows.{class_table, col_at, five_at, Columns, five_texts, Texts, is_text}
+use mathlib.Core.Path.{◌∙◌}
+use Rattle.kinds.specs.declared.Kind.TheVariants as K
 use Rattle.kinds.specs.Values.{kind_index}
+use Rattle.kinds.proofs.KindLaws.{same_index}
+use Rattle.quick.specs.Rows.{is_text}
 use Rattle.quick.proofs.rows.is_text_kind.Goals as goal
 
--- src/rows.rt:69:1
 pub returns : goal.returns
-returns c = ?
+unfolding is_text kind_index
+returns c = c.eq.ensures ∙ same_index c.args.kind K.Comment
