@@ -2,7 +2,7 @@
 use mathlib.Core.Path.{◌≡◌, refl, sym, ◌∙◌, ap}
 use mathlib.Core.Bool.{Bool, true, false, cond}
 use mathlib.Core.List.{List, [], ◌∷◌, ◌++◌}
-use Prim.Native.Nat.{ℕ, zero, suc, ◌+◌, ◌≤◌, ◌<◌}
+use Prim.Native.Nat.{ℕ, zero, suc, ◌+◌, ◌≤◌, ◌<◌, min}
 use native.Mathlib.Omega.{arith}
 use lib.ListN.{length, get_or, drop}
 use lib.IntN.{ℤ, pos, negsuc, nat_abs}
@@ -40,7 +40,9 @@ use Rattle.kinds.specs.declared.Heights.{Heights}
 use Rattle.kinds.specs.declared.Fault.{Fault}
 use Rattle.kinds.specs.declared.Record.{Record}
 use Rattle.kinds.specs.declared.Record.TheVariants as R
-use Rattle.kinds.specs.Values.{kind_number, meaning_of, written_of}
+use Rattle.kinds.specs.declared.Kind.{Kind}
+use Rattle.kinds.specs.Values.{kind_number, kind_index, kind_in, meaning_of, written_of}
+use Rattle.kinds.proofs.KindLaws.{its_number, no_number}
 use Rattle.answers.specs.Answers.{Small, fault_words, answered, touched}
 use Rattle.answers.specs.Given.{word_at, held_or, number_of, digit_of, signed_of, is_least, height_of, sequence_of, character_at, number_at, two_at, three_at, four_at, media_at, project_given, occupation_given, measurement_given, point_given, heights_given, network_given, local_given, records_given, record_given, given, sequence_given, written_words, Noted}
 use Rattle.export.proofs.AnswerLaws.{long_answer, long_touched}
@@ -199,68 +201,72 @@ module _ (k : ℕ) (ws : List ℤ) where
   kind_is : (j : ℕ) → k ≡ j → (r : Record) → r ≡ record_given j ws → r ≡ record_given k ws
   kind_is j e r q = q ∙ ap (λ i. record_given i ws) (sym e)
 
-  pub given-title : 1 ≤ k → k < 2 → (r : Title) → r ≡ record {} → R.Title r ≡ record_given k ws
+  pub given-title : k ≡ 1 → (r : Title) → r ≡ record {} → R.Title r ≡ record_given k ws
   unfolding record_given records_given
-  given-title l h r q = kind_is 1 (omega arith) (R.Title r) (rw q)
+  given-title h r q = kind_is 1 h (R.Title r) (rw q)
 
-  pub given_continuation : 2 ≤ k → k < 3 → (r : Continuation) → r ≡ record {} → R.Continuation r ≡ record_given k ws
+  pub given_continuation : k ≡ 2 → (r : Continuation) → r ≡ record {} → R.Continuation r ≡ record_given k ws
   unfolding record_given records_given
-  given_continuation l h r q = kind_is 2 (omega arith) (R.Continuation r) (rw q)
+  given_continuation h r q = kind_is 2 h (R.Continuation r) (rw q)
 
-  pub given-project : 3 ≤ k → k < 4 → (r : Project) → r ≡ project_given ws → R.Project r ≡ record_given k ws
+  pub given-project : k ≡ 3 → (r : Project) → r ≡ project_given ws → R.Project r ≡ record_given k ws
   unfolding record_given records_given
-  given-project l h r q = kind_is 3 (omega arith) (R.Project r) (rw q)
+  given-project h r q = kind_is 3 h (R.Project r) (rw q)
 
-  pub given-occupation : 4 ≤ k → k < 5 → (r : Occupation) → r ≡ occupation_given ws → R.Occupation r ≡ record_given k ws
+  pub given-occupation : k ≡ 4 → (r : Occupation) → r ≡ occupation_given ws → R.Occupation r ≡ record_given k ws
   unfolding record_given records_given
-  given-occupation l h r q = kind_is 4 (omega arith) (R.Occupation r) (rw q)
+  given-occupation h r q = kind_is 4 h (R.Occupation r) (rw q)
 
-  pub given-comment : 5 ≤ k → k < 6 → (r : Comment) → r ≡ record {} → R.Comment r ≡ record_given k ws
+  pub given-comment : k ≡ 5 → (r : Comment) → r ≡ record {} → R.Comment r ≡ record_given k ws
   unfolding record_given records_given
-  given-comment l h r q = kind_is 5 (omega arith) (R.Comment r) (rw q)
+  given-comment h r q = kind_is 5 h (R.Comment r) (rw q)
 
-  pub given-measurement : 6 ≤ k → k < 7 → (r : Measurement) → r ≡ measurement_given ws → R.Measurement r ≡ record_given k ws
+  pub given-measurement : k ≡ 6 → (r : Measurement) → r ≡ measurement_given ws → R.Measurement r ≡ record_given k ws
   unfolding record_given records_given
-  given-measurement l h r q = kind_is 6 (omega arith) (R.Measurement r) (rw q)
+  given-measurement h r q = kind_is 6 h (R.Measurement r) (rw q)
 
-  pub given-point : 9 ≤ k → k < 10 → (r : Point) → r ≡ point_given ws → R.Point r ≡ record_given k ws
+  pub given-point : k ≡ 9 → (r : Point) → r ≡ point_given ws → R.Point r ≡ record_given k ws
   unfolding record_given records_given
-  given-point l h r q = kind_is 9 (omega arith) (R.Point r) (rw q)
+  given-point h r q = kind_is 9 h (R.Point r) (rw q)
 
-  pub given-heights : 10 ≤ k → k < 11 → (r : Heights) → r ≡ heights_given ws → R.Heights r ≡ record_given k ws
+  pub given-heights : k ≡ 10 → (r : Heights) → r ≡ heights_given ws → R.Heights r ≡ record_given k ws
   unfolding record_given records_given
-  given-heights l h r q = kind_is 10 (omega arith) (R.Heights r) (rw q)
+  given-heights h r q = kind_is 10 h (R.Heights r) (rw q)
 
-  pub given-network : 11 ≤ k → k < 12 → (r : Network) → r ≡ network_given ws → R.Network r ≡ record_given k ws
+  pub given-network : k ≡ 11 → (r : Network) → r ≡ network_given ws → R.Network r ≡ record_given k ws
   unfolding record_given records_given
-  given-network l h r q = kind_is 11 (omega arith) (R.Network r) (rw q)
+  given-network h r q = kind_is 11 h (R.Network r) (rw q)
 
-  pub given-local : 12 ≤ k → k < 13 → (r : Local) → r ≡ local_given ws → R.Local r ≡ record_given k ws
+  pub given-local : k ≡ 12 → (r : Local) → r ≡ local_given ws → R.Local r ≡ record_given k ws
   unfolding record_given records_given
-  given-local l h r q = kind_is 12 (omega arith) (R.Local r) (rw q)
+  given-local h r q = kind_is 12 h (R.Local r) (rw q)
 
-  pub given-factor : 13 ≤ k → k < 14 → (a b : ℕ) (r : Factor) → a ≡ number_at ws 2 → b ≡ number_at ws 3 → r ≡ record { horizontal = a; vertical = b } → R.Factor r ≡ record_given k ws
+  pub given-factor : k ≡ 13 → (a b : ℕ) (r : Factor) → a ≡ number_at ws 2 → b ≡ number_at ws 3 → r ≡ record { horizontal = a; vertical = b } → R.Factor r ≡ record_given k ws
   unfolding record_given records_given
-  given-factor l h a b r p q e = kind_is 13 (omega arith) (R.Factor r) (rw (e, p, q))
+  given-factor h a b r p q e = kind_is 13 h (R.Factor r) (rw (e, p, q))
 
-  pub given_job : k < 1 → (a b : ℕ) (r : Job) → a ≡ character_at ws 2 → b ≡ character_at ws 3 → r ≡ record { first = a; second = b } → R.Job r ≡ record_given k ws
+  pub given_job : k ≡ 0 → (a b : ℕ) (r : Job) → a ≡ character_at ws 2 → b ≡ character_at ws 3 → r ≡ record { first = a; second = b } → R.Job r ≡ record_given k ws
   unfolding record_given records_given
-  given_job h a b r p q e = kind_is 0 (omega arith) (R.Job r) (rw (e, p, q))
+  given_job h a b r p q e = kind_is 0 h (R.Job r) (rw (e, p, q))
 
-  pub given-instrument : 7 ≤ k → k < 8 → (a b : ℕ) (r : Instrument) → a ≡ number_at ws 2 → b ≡ number_at ws 3 → r ≡ record { instrument = a; equipment = b } → R.Instrument r ≡ record_given k ws
+  pub given-instrument : k ≡ 7 → (a b : ℕ) (r : Instrument) → a ≡ number_at ws 2 → b ≡ number_at ws 3 → r ≡ record { instrument = a; equipment = b } → R.Instrument r ≡ record_given k ws
   unfolding record_given records_given
-  given-instrument l h a b r p q e = kind_is 7 (omega arith) (R.Instrument r) (rw (e, p, q))
+  given-instrument h a b r p q e = kind_is 7 h (R.Instrument r) (rw (e, p, q))
 
-  pub given-antenna : 8 ≤ k → k < 9 → (a : ℕ) (t : Four) (r : Antenna) → a ≡ number_at ws 2 → t ≡ four_at ws 3 → r ≡ record { antenna = a; radome = t } → R.Antenna r ≡ record_given k ws
+  pub given-antenna : k ≡ 8 → (a : ℕ) (t : Four) (r : Antenna) → a ≡ number_at ws 2 → t ≡ four_at ws 3 → r ≡ record { antenna = a; radome = t } → R.Antenna r ≡ record_given k ws
   unfolding record_given records_given
-  given-antenna l h a t r p q e = kind_is 8 (omega arith) (R.Antenna r) (rw (e, p, q))
+  given-antenna h a t r p q e = kind_is 8 h (R.Antenna r) (rw (e, p, q))
 
   pub given_none : 14 ≤ k → (r : Job) → r ≡ record { first = 0; second = 0 } → R.Job r ≡ record_given k ws
   unfolding record_given records_given
   given_none h r e = ap R.Job e ∙ sym (past k (records_given ws) (R.Job record { first = 0; second = 0 }) h)
 
-pub given_kind : (ws : List ℤ) (k : ℕ) (r : Record) → k ≡ number_at ws 0 → r ≡ record_given k ws → r ≡ given ws
-given_kind ws k r e q = q ∙ ap (λ i. record_given i ws) e
+module _ (ws : List ℤ) (n : ℕ) (e : n ≡ number_at ws 0) (o : Option Kind) (p : kind_in o ≡ min n 14) where
+  pub given_kind : (k : Kind) → o ≡ Some k → (r : Record) → r ≡ record_given (kind_index k) ws → r ≡ given ws
+  given_kind k h r q = q ∙ ap (λ i. record_given i ws) (its_number o k n p h ∙ e)
+
+  pub given_no_kind : o ≡ None → (r : Job) → r ≡ record { first = 0; second = 0 } → R.Job r ≡ given ws
+  given_no_kind h r q = given_none (number_at ws 0) ws (rw e at (no_number o n p h)) r q
 
 -- ---- the answer
 pub noted_small : (w : Result (Unit {0}) Fault) (f : Fault) → Noted w → w ≡ Err f → Small f

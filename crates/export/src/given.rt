@@ -1,12 +1,13 @@
 // A record and a sequence number out of words. What the type of a field cannot hold, and a word that is lacking, is taken for a
 // value that no field holds, so that write refuses it at the field's own column and after any fault further left.
-ghost use Rattle.std.specs.Prelude.{◌≡◌, ◌<◌};
+ghost use Rattle.std.specs.Prelude.{◌≡◌};
+ghost use Rattle.kinds.specs.Values.{kind_index};
 ghost use Rattle.answers.specs.Given.{word_at, digit_of, signed_of, height_of, character_at, number_at, two_at, three_at, four_at, media_at, project_given, occupation_given, measurement_given, point_given, heights_given, network_given, local_given, record_given, given, sequence_given};
 
 use columns::{Four, Media};
 use kinds::{
-    Antenna, Comment, Continuation, Factor, Heights, Instrument, Job, Local, Measurement, Network,
-    Occupation, Point, Project, Record, Three, Title, Two,
+    Antenna, Comment, Continuation, Factor, Heights, Instrument, Job, Kind, Local, Measurement,
+    Network, Occupation, Point, Project, Record, Three, Title, Two,
 };
 
 // A word, and the largest one where it is lacking.
@@ -214,67 +215,33 @@ fn give_local(values: &[i64]) -> Local
     )
 }
 
-// The first seven kinds.
-fn give_low(values: &[i64], kind: u32) -> Record
-    requires { kind < 7 }
-    ensures { result ≡ record_given kind values.now }
+fn give_kind(values: &[i64], kind: Kind) -> Record
+    ensures { result ≡ record_given (kind_index kind) values.now }
 {
-    if kind < 1 {
-        return Record::Job(Job::new(character_at(values, 2), character_at(values, 3)));
+    match kind {
+        Kind::Job => Record::Job(Job::new(character_at(values, 2), character_at(values, 3))),
+        Kind::Title => Record::Title(Title::new()),
+        Kind::Continuation => Record::Continuation(Continuation::new()),
+        Kind::Project => Record::Project(give_project(values)),
+        Kind::Occupation => Record::Occupation(give_occupation(values)),
+        Kind::Comment => Record::Comment(Comment::new()),
+        Kind::Measurement => Record::Measurement(give_measurement(values)),
+        Kind::Instrument => Record::Instrument(Instrument::new(number_at(values, 2), number_at(values, 3))),
+        Kind::Antenna => Record::Antenna(Antenna::new(number_at(values, 2), four_at(values, 3))),
+        Kind::Point => Record::Point(give_point(values)),
+        Kind::Heights => Record::Heights(give_heights(values)),
+        Kind::Network => Record::Network(give_network(values)),
+        Kind::Local => Record::Local(give_local(values)),
+        Kind::Factor => Record::Factor(Factor::new(number_at(values, 2), number_at(values, 3))),
     }
-    if kind < 2 {
-        return Record::Title(Title::new());
-    }
-    if kind < 3 {
-        return Record::Continuation(Continuation::new());
-    }
-    if kind < 4 {
-        return Record::Project(give_project(values));
-    }
-    if kind < 5 {
-        return Record::Occupation(give_occupation(values));
-    }
-    if kind < 6 {
-        return Record::Comment(Comment::new());
-    }
-    Record::Measurement(give_measurement(values))
 }
 
-// The others, and a job code that is none where there is no such kind.
-fn give_high(values: &[i64], kind: u32) -> Record
-    requires { 6 < kind }
-    ensures { result ≡ record_given kind values.now }
-{
-    if kind < 8 {
-        return Record::Instrument(Instrument::new(number_at(values, 2), number_at(values, 3)));
-    }
-    if kind < 9 {
-        return Record::Antenna(Antenna::new(number_at(values, 2), four_at(values, 3)));
-    }
-    if kind < 10 {
-        return Record::Point(give_point(values));
-    }
-    if kind < 11 {
-        return Record::Heights(give_heights(values));
-    }
-    if kind < 12 {
-        return Record::Network(give_network(values));
-    }
-    if kind < 13 {
-        return Record::Local(give_local(values));
-    }
-    if kind < 14 {
-        return Record::Factor(Factor::new(number_at(values, 2), number_at(values, 3)));
-    }
-    Record::Job(Job::new(0, 0))
-}
-
+// A job code that is none where there is no such kind.
 pub(crate) fn give_record(values: &[i64]) -> Record
     ensures { result ≡ given values.now }
 {
-    let kind = number_at(values, 0);
-    if kind < 7 {
-        return give_low(values, kind);
+    match Kind::with_index(number_at(values, 0)) {
+        Some(kind) => give_kind(values, kind),
+        None => Record::Job(Job::new(0, 0)),
     }
-    give_high(values, kind)
 }

@@ -177,22 +177,7 @@ fn put_record(out: &mut [i64], what: Record)
 fn number_kind(what: Record) -> u32
     ensures { result ≡ kind_number what }
 {
-    match what {
-        Record::Job(r) => 0,
-        Record::Title(r) => 1,
-        Record::Continuation(r) => 2,
-        Record::Project(r) => 3,
-        Record::Occupation(r) => 4,
-        Record::Comment(r) => 5,
-        Record::Measurement(r) => 6,
-        Record::Instrument(r) => 7,
-        Record::Antenna(r) => 8,
-        Record::Point(r) => 9,
-        Record::Heights(r) => 10,
-        Record::Network(r) => 11,
-        Record::Local(r) => 12,
-        Record::Factor(r) => 13,
-    }
+    what.kind().index() as u32
 }
 
 fn put_values(out: &mut [i64], s: Option<u32>, what: Record)

@@ -1,7 +1,8 @@
 -- A kind and its number: each of the fourteen has one below 14, and no other kind, nor none, has it.
 use mathlib.Core.Path.{◌≡◌, refl, sym, ap, ap₂, ◌∙◌}
 use mathlib.Core.List.{List, [], ◌∷◌}
-use Prim.Native.Nat.{ℕ, ◌<◌}
+use Prim.Native.Nat.{ℕ, ◌≤◌, ◌<◌, min}
+use native.Mathlib.Nat.{min-le_left}
 use lib.Dec.{lit≤, eqb}
 use denote.Enum.Declared.{tag_of}
 use denote.Enum.Bare.{sameb}
@@ -95,6 +96,13 @@ no_kind r n e q = sym e ∙ ap kind_in q
 pub is_some : (r : Option Kind) (n : ℕ) → kind_in r ≡ n → n < 14 → IsSome r
 is_some None n e h = absurd (omega (arith, no_kind None n e refl))
 is_some (Some k) n e h = refl
+
+-- the kind of a number, which is 14 or more where there is none
+pub its_number : (r : Option Kind) (k : Kind) (n : ℕ) → kind_in r ≡ min n 14 → r ≡ Some k → kind_index k ≡ n
+its_number r k n e h = omega (arith, some_kind r k (min n 14) e h, index_small k)
+
+pub no_number : (r : Option Kind) (n : ℕ) → kind_in r ≡ min n 14 → r ≡ None → 14 ≤ n
+no_number r n e h = omega (arith, no_kind r (min n 14) e h, min-le_left n 14)
 
 -- another kind has another number
 pub other_index : (k j : Kind) → (k ≡ j → ⊥) → kind_index k ≡ kind_index j → ⊥
