@@ -32,10 +32,8 @@ fn fault_in(line: &[u8], classes: &[[[u8; 80]; 5]; 14]) -> Result<(), Flaw>
     requires { classes.now ≡ class_table }
     ensures { result ≡ judged_of (read_line chapter4 line.now) }
 {
-    if let Some(kind) = kind_at(line) {
-        if fits(line, kind, Expect::Anything, classes) {
-            return Ok(());
-        }
+    if fits(line, kind_at(line), Expect::Anything, classes) {
+        return Ok(());
     }
     judge_alone(line)
 }

@@ -15,7 +15,8 @@ use denote.Enum.Bare.{sameb}
 use Rattle.kinds.specs.contracts.Kind.{the_type}
 use Rattle.kinds.specs.declared.Kind.{Kind}
 use Rattle.kinds.specs.declared.Kind.TheVariants as K
-use Rattle.kinds.specs.Values.{kind_index}
+use Rattle.kinds.specs.Values.{kind_index, kind_in}
+use Rattle.std.specs.Prelude.{Option, Some}
 use Rattle.kinds.specs.Tables.{row_lists}
 use Rattle.kinds.proofs.KindLaws.{index_small, same_index}
 use Rattle.quick.specs.Rows.{class_table, col_at, five_at, Columns, text_at, five_texts, Texts, is_text}
@@ -213,12 +214,13 @@ pub no_job : (k : Kind) (b : Bool) → b ≡ sameb the_type k K.Job → b ≡ fa
 unfolding kind_index
 no_job k b e h z = eqb-false (kind_index k) 0 (sym (e ∙ same_index k K.Job) ∙ h) z
 
-pub fits_whole : (e : Expect) (l : List ℕ) (kind : Kind) → (kind_index kind ≡ 0 → ⊥) → 80 < length l → (a : Bool) → (a ≡ true → Columns (get_or class_table (kind_index kind) []) l) → (b : Bool) → b ≡ sequence_rest l
-    → (d : Bool) → (d ≡ true → rest_from true e l (get_or row_lists (kind_index kind) []) ≡ true) → (a && b && eqb (get_or l 80 0) 10 && d) ≡ true → Fit l (kind_index kind) e
-fits_whole e l kind low long a f b s d g h =
+pub fits_whole : (e : Expect) (l : List ℕ) (o : Option Kind) (kind : Kind) → o ≡ Some kind → (kind_index kind ≡ 0 → ⊥) → 80 < length l → (a : Bool) → (a ≡ true → Columns (get_or class_table (kind_index kind) []) l) → (b : Bool) → b ≡ sequence_rest l
+    → (d : Bool) → (d ≡ true → rest_from true e l (get_or row_lists (kind_index kind) []) ≡ true) → (a && b && eqb (get_or l 80 0) 10 && d) ≡ true → Fit l (kind_in o) e
+unfolding kind_in
+fits_whole e l o kind known low long a f b s d g h =
     let k = kind_index kind in
     let high = index_small kind in
     let x = both_true (a && b && eqb (get_or l 80 0) 10) d h in
     let y = both_true (a && b) (eqb (get_or l 80 0) 10) x.0 in
     let z = both_true a b y.0 in
-    fits_ok e l k (above_0 k low) high long (eqb-true (get_or l 80 0) 10 y.1) (row_from l k high long (f z.0)) (sym s ∙ z.1) (g x.1)
+    rw known (fits_ok e l k (above_0 k low) high long (eqb-true (get_or l 80 0) 10 y.1) (row_from l k high long (f z.0)) (sym s ∙ z.1) (g x.1))

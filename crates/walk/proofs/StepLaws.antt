@@ -7,7 +7,7 @@ use native.Mathlib.Omega.{arith}
 use lib.Dec.{leb, eqb}
 use lib.ListN.{length, get_or, take}
 use borrow.Author.Tests.{leb-true}
-use Rattle.std.specs.Prelude.{Result, Ok, Err, Option, None}
+use Rattle.std.specs.Prelude.{Result, Ok, Err, Option, Some, None}
 use Rattle.rules.specs.Tests.{◌&◌, ◌≤?◌}
 use Rattle.rules.specs.Fields.{fault, check, ◌⨾◌, is_ok, read, judge}
 use Rattle.rules.specs.Items.{good, spot}
@@ -101,12 +101,12 @@ module _ (rows : List (List ℕ)) (s : Kept) (r : ℕ) (l : List ℕ) where
 
   module _ (kind : Kind) (e : kind_index kind ≡ kind_of (code_at l)) (next : ℕ) (n : next ≡ goto rows s.place (kind_index kind)) where
     -- ---- the quick test: what fits has no fault
-    pub placed_quick : (d : Expect) → d ≡ expect_in s (kind_index kind) → (t : Bool) → (t ≡ true → Fit l (kind_index kind) (expect_of d)) → (not (eqb next 0) && leb r 99_999 && t) ≡ true → Ok tt ≡ judged_of (judge_at rows s r l)
+    pub placed_quick : (d : Expect) → d ≡ expect_in s (kind_index kind) → (t : Bool) → (t ≡ true → Fit l (kind_in (Some kind)) (expect_of d)) → (not (eqb next 0) && leb r 99_999 && t) ≡ true → Ok tt ≡ judged_of (judge_at rows s r l)
     placed_quick d f t g q =
         let k = kind_index kind in
         let x = both_true (not (eqb next 0) && leb r 99_999) t q in
         let y = both_true (not (eqb next 0)) (leb r 99_999) x.0 in
-        let F = g x.1 in
+        let F : Fit l (kind_index kind) (expect_of d) = unfold kind_in in g x.1 in
         let fine = is_ok_⨾ (numbered chapter4 l) (judge (expect_of d) (map (read l) (get_or layouts k kept))) ∙ and (numbered_ok F.number) F.fields in
         placed_rest kind e (leb-true r 99_999 y.1) (Ok tt) (ok_good (bytes 80 1 l) F.fine) refl next n (comes y.0) (get_or l 7 0) refl (get_or l 8 0) refl
         (foreign s k (get_or l 7 0) (get_or l 8 0)) refl (at_home F.low) d f (ok_good (numbered chapter4 l ⨾ judge (expect_of d) (map (read l) (get_or layouts k kept))) fine)

@@ -82,7 +82,7 @@ fn judge_quickly(
     requires { (kind_index kind ≡ kind_of (code_at line.now)) × (tabular rows.now ≡ true) × (next ≡ goto rows.now s.place (kind_index kind)) × (classes.now ≡ class_table) }
     ensures { result ≡ judged_of (judge_at rows.now s r line.now) }
 {
-    if (next != 0) & (r <= 99_999) & fits(line, kind, expect(s, kind), classes) {
+    if (next != 0) & (r <= 99_999) & fits(line, Some(kind), expect(s, kind), classes) {
         return Ok(());
     }
     judge_placed(rows, s, r, line, kind)
