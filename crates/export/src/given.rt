@@ -1,6 +1,6 @@
 // A record and a sequence number out of words. What the type of a field cannot hold, and a word that is lacking, is taken for a
 // value that no field holds, so that write refuses it at the field's own column and after any fault further left.
-ghost use Rattle.std.specs.Prelude.{◌≡◌};
+ghost use Rattle.std.specs.Prelude.{◌≡◌, ◌<◌};
 ghost use Rattle.kinds.specs.Values.{kind_index};
 ghost use Rattle.answers.specs.Given.{word_at, digit_of, signed_of, height_of, character_at, number_at, two_at, three_at, four_at, media_at, project_given, occupation_given, measurement_given, point_given, heights_given, network_given, local_given, record_given, given, sequence_given};
 
@@ -226,7 +226,10 @@ fn give_kind(values: &[i64], kind: Kind) -> Record
         Kind::Occupation => Record::Occupation(give_occupation(values)),
         Kind::Comment => Record::Comment(Comment::new()),
         Kind::Measurement => Record::Measurement(give_measurement(values)),
-        Kind::Instrument => Record::Instrument(Instrument::new(number_at(values, 2), number_at(values, 3))),
+        Kind::Instrument => Record::Instrument(Instrument::new(
+            number_at(values, 2),
+            number_at(values, 3),
+        )),
         Kind::Antenna => Record::Antenna(Antenna::new(number_at(values, 2), four_at(values, 3))),
         Kind::Point => Record::Point(give_point(values)),
         Kind::Heights => Record::Heights(give_heights(values)),
