@@ -45,9 +45,11 @@ use Rattle.kinds.specs.declared.Heights.{Heights}
 use Rattle.kinds.specs.declared.Fault.{Fault}
 use Rattle.kinds.specs.declared.Record.{Record}
 use Rattle.kinds.specs.declared.Record.TheVariants as R
-use Rattle.kinds.specs.Values.{kind_number, meaning_of, written_of}
+use Rattle.kinds.specs.Values.{kind_number, meaning_of, written_of, kind_index, kind_in}
 use Rattle.answers.specs.Answers.{Small, fault_words, fault_in, answered, touched}
 use Rattle.answers.specs.Given.{word_at, held_or, digit_of, signed_of, is_least, height_of, sequence_of, character_at, number_at, two_at, three_at, four_at, media_at, project_given, occupation_given, measurement_given, point_given, heights_given, network_given, local_given, records_given, record_given, given, sequence_given, written_words, number_of, character_of}
+use Rattle.kinds.specs.declared.Kind.{Kind}
+use Rattle.kinds.proofs.KindLaws.{its_number, no_number}
 use Rattle.export.proofs.AnswerLaws.{long_answer, long_touched}
 use lib.Dec.{eqb}
 use Rattle.columns.proofs.Signed.{widened}
@@ -245,6 +247,13 @@ module _ (k : ℕ) (ws : List ℤ) where
   pub given_none : 14 ≤ k → (r : Job) → r ≡ record { first = 0; second = 0 } → R.Job r ≡ record_given k ws
   unfolding record_given records_given
   given_none h r e = ap R.Job e ∙ sym (get_or_past (records_given ws) k (R.Job record { first = 0; second = 0 }) h)
+
+module _ (ws : List ℤ) (n : ℕ) (e : n ≡ number_at ws 0) (o : Option Kind) (p : kind_in o ≡ min n 14) where
+  pub given_kind : (k : Kind) → o ≡ Some k → (r : Record) → r ≡ record_given (kind_index k) ws → r ≡ given ws
+  given_kind k h r q = q ∙ ap (λ i. record_given i ws) (its_number o k n p h ∙ e)
+
+  pub given_no_kind : o ≡ None → (r : Job) → r ≡ record { first = 0; second = 0 } → R.Job r ≡ given ws
+  given_no_kind h r q = given_none (number_at ws 0) ws (rw e at (no_number o n p h)) r q
 
 -- ---- the answer
 noted_of : (v : Verdict) → ((n c : ℕ) → v ≡ fault n c → c ≤ 80) → Small (fault_in (written_of v))

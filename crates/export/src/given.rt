@@ -1,12 +1,13 @@
 // A record and a sequence number out of words. What the type of a field cannot hold, and a word that is lacking, is taken for a
 // value that no field holds, so that write refuses it at the field's own column and after any fault further left.
-ghost use Rattle.std.specs.Prelude.{◌≡◌, ◌<◌, ◌+◌};
+ghost use Rattle.std.specs.Prelude.{◌≡◌, ◌<◌};
+ghost use Rattle.kinds.specs.Values.{kind_index};
 ghost use Rattle.answers.specs.Given.{word_at, digit_of, signed_of, height_of, character_at, number_at, two_at, three_at, four_at, media_at, project_given, occupation_given, measurement_given, point_given, heights_given, network_given, local_given, record_given, given, sequence_given};
 
 use columns::{Four, Height, Media};
 use kinds::{
-    Antenna, Comment, Continuation, Factor, Heights, Instrument, Job, Local, Measurement, Network,
-    Occupation, Point, Project, Record, Three, Title, Two,
+    Antenna, Comment, Continuation, Factor, Heights, Instrument, Job, Kind, Local, Measurement,
+    Network, Occupation, Point, Project, Record, Three, Title, Two,
 };
 
 // A word, and the largest one where it is lacking.
@@ -218,25 +219,36 @@ fn give_local(values: &[i64]) -> Local
     )
 }
 
-// Word 0 is the kind, by its number of include/shelf.h; where there is no such kind, a job code that is none.
+fn give_kind(values: &[i64], kind: Kind) -> Record
+    ensures { result ≡ record_given (kind_index kind) values.now }
+{
+    match kind {
+        Kind::Job => Record::Job(Job::new(character_at(values, 2), character_at(values, 3))),
+        Kind::Title => Record::Title(Title::new()),
+        Kind::Continuation => Record::Continuation(Continuation::new()),
+        Kind::Project => Record::Project(give_project(values)),
+        Kind::Occupation => Record::Occupation(give_occupation(values)),
+        Kind::Comment => Record::Comment(Comment::new()),
+        Kind::Measurement => Record::Measurement(give_measurement(values)),
+        Kind::Instrument => Record::Instrument(Instrument::new(
+            number_at(values, 2),
+            number_at(values, 3),
+        )),
+        Kind::Antenna => Record::Antenna(Antenna::new(number_at(values, 2), four_at(values, 3))),
+        Kind::Point => Record::Point(give_point(values)),
+        Kind::Heights => Record::Heights(give_heights(values)),
+        Kind::Network => Record::Network(give_network(values)),
+        Kind::Local => Record::Local(give_local(values)),
+        Kind::Factor => Record::Factor(Factor::new(number_at(values, 2), number_at(values, 3))),
+    }
+}
+
+// A job code that is none where there is no such kind.
 pub(crate) fn give_record(values: &[i64]) -> Record
     ensures { result ≡ given values.now }
 {
-    match number_at(values, 0) {
-        0 => Record::Job(Job::new(character_at(values, 2), character_at(values, 3))),
-        1 => Record::Title(Title::new()),
-        2 => Record::Continuation(Continuation::new()),
-        3 => Record::Project(give_project(values)),
-        4 => Record::Occupation(give_occupation(values)),
-        5 => Record::Comment(Comment::new()),
-        6 => Record::Measurement(give_measurement(values)),
-        7 => Record::Instrument(Instrument::new(number_at(values, 2), number_at(values, 3))),
-        8 => Record::Antenna(Antenna::new(number_at(values, 2), four_at(values, 3))),
-        9 => Record::Point(give_point(values)),
-        10 => Record::Heights(give_heights(values)),
-        11 => Record::Network(give_network(values)),
-        12 => Record::Local(give_local(values)),
-        13 => Record::Factor(Factor::new(number_at(values, 2), number_at(values, 3))),
-        _ => Record::Job(Job::new(0, 0)),
+    match Kind::with_index(number_at(values, 0)) {
+        Some(kind) => give_kind(values, kind),
+        None => Record::Job(Job::new(0, 0)),
     }
 }

@@ -179,22 +179,7 @@ fn put_record(out: &mut [i64], what: Record)
 fn number_kind(what: Record) -> u32
     ensures { result ≡ kind_number what }
 {
-    match what {
-        Record::Job(_) => 0,
-        Record::Title(_) => 1,
-        Record::Continuation(_) => 2,
-        Record::Project(_) => 3,
-        Record::Occupation(_) => 4,
-        Record::Comment(_) => 5,
-        Record::Measurement(_) => 6,
-        Record::Instrument(_) => 7,
-        Record::Antenna(_) => 8,
-        Record::Point(_) => 9,
-        Record::Heights(_) => 10,
-        Record::Network(_) => 11,
-        Record::Local(_) => 12,
-        Record::Factor(_) => 13,
-    }
+    what.kind().index() as u32
 }
 
 fn put_values(out: &mut [i64], s: Option<u32>, what: Record)

@@ -4,10 +4,10 @@ use mathlib.Core.Bool.{Bool, true, false, ◌&&◌, false≢true}
 use mathlib.Core.List.{List, map}
 use Prim.Native.Nat.{ℕ, ◌+◌, ◌≤◌, ◌<◌}
 use native.Mathlib.Omega.{arith}
-use lib.Dec.{eqb}
+use lib.Dec.{eqb, lit≤}
 use lib.ListN.{length, take, get_or}
 use lib.Seq.{length-take-le}
-use Rattle.std.specs.Prelude.{Result, Ok, Err}
+use Rattle.std.specs.Prelude.{Result, Ok, Err, Option, Some, None}
 use Rattle.rules.specs.Tests.{all, within, ◌&◌, ◌≤?◌, ◌=?◌}
 use Rattle.rules.specs.Characters.{is_printable}
 use Rattle.rules.specs.Items.{number, width, good, spot}
@@ -23,7 +23,9 @@ use Rattle.rules.proofs.Conforming.{bytes_of}
 use Rattle.columns.proofs.Loops.{&_is}
 use Rattle.kinds.specs.declared.Flaw.{Flaw}
 use Rattle.kinds.specs.declared.Expect.TheVariants as X
-use Rattle.kinds.specs.Values.{judged_of, expect_of}
+use Rattle.kinds.specs.declared.Kind.{Kind}
+use Rattle.kinds.specs.Values.{judged_of, expect_of, kind_index, kind_in}
+use Rattle.kinds.proofs.KindLaws.{index_small, some_kind, no_kind}
 use Rattle.kinds.proofs.ValueLaws.{flaw, good_is, bad_then}
 use Rattle.judging.specs.Judging.{clean, sized, spans}
 
@@ -85,11 +87,12 @@ module _ (l : List ℕ) where
   pub alone_long : (j : Result (Unit {0}) Flaw) → j ≡ judged_of (bytes 80 1 l) → j ≡ Ok tt → 80 < length l
   alone_long j p q = bytes-length 1 80 l (ap is_ok (good_is (bytes 80 1 l) (sym p ∙ q)) ∙ (unfold is_ok in refl))
 
-  module _ (j : Result (Unit {0}) Flaw) (p : j ≡ judged_of (bytes 80 1 l)) (q : j ≡ Ok tt) (k : ℕ) (z : k ≡ kind_of (code_at l)) where
-    pub alone_code : 13 < k → {w : Flaw} → w ≡ flaw 6 7 → Err w ≡ judged_of (read_line chapter4 l)
+  module _ (j : Result (Unit {0}) Flaw) (p : j ≡ judged_of (bytes 80 1 l)) (q : j ≡ Ok tt) (r : Option Kind) (z : kind_in r ≡ kind_of (code_at l)) where
+    -- a code of no kind
+    pub alone_code : r ≡ None → judged_of (read_line chapter4 l) ≡ Err (flaw 6 7)
     unfolding read_line known check ◌⨾◌ judged_of
-    alone_code h y = rw (y, good_is (bytes 80 1 l) (sym p ∙ q), ← z, of> h)
+    alone_code h = rw (good_is (bytes 80 1 l) (sym p ∙ q), no_kind r _ z h, of> {m = 14} {n = 13} (lit≤ tt))
 
-    pub alone_fields : k ≤ 13 → {r : Result (Unit {0}) Flaw} → r ≡ judged_of (numbered chapter4 l ⨾ judge (expect_of X.Anything) (map (read l) (get_or layouts k kept))) → r ≡ judged_of (read_line chapter4 l)
+    pub alone_fields : (k : Kind) → r ≡ Some k → {v : Result (Unit {0}) Flaw} → v ≡ judged_of (numbered chapter4 l ⨾ judge (expect_of X.Anything) (map (read l) (get_or layouts (kind_index k) kept))) → v ≡ judged_of (read_line chapter4 l)
     unfolding read_line known entries layout check ◌⨾◌ expect_of
-    alone_fields h e = e ∙ sym (rw (good_is (bytes 80 1 l) (sym p ∙ q), ← z, of≤ h))
+    alone_fields k h e = e ∙ sym (rw (good_is (bytes 80 1 l) (sym p ∙ q), ← some_kind r k _ z h, of≤ {m = kind_index k} {n = 13} (omega (arith, index_small k))))

@@ -25,7 +25,9 @@ use Rattle.kinds.specs.declared.tables.Bond.{Bond}
 use Rattle.kinds.specs.declared.tables.Bond.TheVariants as B
 use Rattle.kinds.specs.Tables.{item_of, Row, row_lists, rows, starts, items, bonds, firsts, widths}
 use Rattle.kinds.specs.declared.Flaw.{Flaw}
-use Rattle.kinds.specs.Values.{judged_of}
+use Rattle.kinds.specs.declared.Kind.{Kind}
+use Rattle.kinds.specs.Values.{judged_of, kind_index}
+use Rattle.kinds.proofs.KindLaws.{index_small}
 use Rattle.kinds.proofs.TableLaws.{each_kind, begins, item_is, bond_is, first_is, width_is, row_passes, rows_from}
 use Rattle.kinds.proofs.ValueLaws.{flaw, good_is, bad_is}
 use Rattle.judging.specs.Judging.{part, number_in, agrees_in, judge_row, judge_rows, judge_field, judge_field_at, refused, refused_at, pointed, sized, spans}
@@ -179,10 +181,11 @@ pub record Walked (e : Expect) (l : List ℕ) (kind end i : ℕ) : Type 0 where
   pub high : end ≤ 87
   pub same : judge_rows e l (slice i end rows) ≡ judge e (map (read l) (get_or layouts kind kept))
 
-pub walk_from : (e : Expect) (l : List ℕ) (kind : ℕ) → kind < 14 → (s : ℕ) → s ≡ get_or starts (kind + 1) 0 → (end : ℕ) → end ≡ s → (t : ℕ) → t ≡ get_or starts kind 0 → (i : ℕ) → i ≡ t → Walked e l kind end i
-walk_from e l kind h s p end q t p' i q' =
-    let b = begins kind h in
-    rw (q, p, q', p') record { low = b.low; high = b.high; same = rw b.whole (rows-judge e l kind h) }
+pub walk_from : (e : Expect) (l : List ℕ) (k : Kind) (end : ℕ) → end ≡ get_or starts (kind_index k + 1) 0 → (i : ℕ) → i ≡ get_or starts (kind_index k) 0 → Walked e l (kind_index k) end i
+walk_from e l k end p i q =
+    let h = index_small k in
+    let b = begins (kind_index k) h in
+    rw (p, q) record { low = b.low; high = b.high; same = rw b.whole (rows-judge e l (kind_index k) h) }
 
 module _ {e : Expect} {l : List ℕ} {kind end i : ℕ} (v : Walked e l kind end i) (h : i < end) where
   pub below : i < 87

@@ -4,7 +4,7 @@ ghost use Rattle.rules.specs.Items.{good, spot};
 ghost use Rattle.rules.specs.Fields.{fault, read, judge, meets};
 ghost use Rattle.rules.specs.Layouts.{layouts, kept};
 ghost use Rattle.kinds.specs.Tables.{item_of};
-ghost use Rattle.kinds.specs.Values.{judged_of, expect_of};
+ghost use Rattle.kinds.specs.Values.{judged_of, expect_of, kind_index};
 ghost use Rattle.judging.specs.Judging.{part, agrees_in, judge_field, judge_field_at, refused, refused_at, pointed, sized, KindOf, spans};
 
 use crate::spots::{FieldKind, first_bad};
@@ -15,8 +15,8 @@ use columns::numbers::{good_month, good_number, value_of};
 use columns::parts::middle;
 use columns::sets::{all_blank, good_blank, good_constant, good_word, good_word_or_blank};
 use columns::{Set, Way};
-use kinds::tables::{Bond, Item, bond_at, first_at, item_at, start_at, width_at};
-use kinds::{Expect, Flaw};
+use kinds::tables::{Bond, Item, bond_at, end_row, first_at, first_row, item_at, width_at};
+use kinds::{Expect, Flaw, Kind};
 
 // Of its kind and range.
 fn good_item(item: Item, part: &[u8]) -> bool
@@ -192,11 +192,11 @@ fn point_at(line: &[u8], i: usize, flaw: Flaw) -> Flaw
 }
 
 // The fields from column 11 on of a line of a kind, row by row of the tables: the first fault.
-pub(crate) fn judge_fields(line: &[u8], kind: usize, e: Expect) -> Result<(), Flaw>
-    requires { (80 ≤ length line.now) × (kind < 14) }
-    ensures { result ≡ judged_of (judge (expect_of e) (map (read line.now) (get_or layouts kind kept))) }
+pub(crate) fn judge_fields(line: &[u8], kind: Kind, e: Expect) -> Result<(), Flaw>
+    requires { 80 ≤ length line.now }
+    ensures { result ≡ judged_of (judge (expect_of e) (map (read line.now) (get_or layouts (kind_index kind) kept))) }
 {
-    for i in usize::from(start_at(kind))..usize::from(start_at(kind + 1)) {
+    for i in first_row(kind)..end_row(kind) {
         if let Err(flaw) = judge_at(e, line, i) {
             return Err(point_at(line, i, flaw));
         }

@@ -1,11 +1,11 @@
 // A whole line: its bytes, its code, columns 1-6 and its fields.
-ghost use Rattle.std.specs.Prelude.{◌≡◌, true, map, ◌≤◌, ◌<◌, length, get_or, take};
+ghost use Rattle.std.specs.Prelude.{◌≡◌, true, map, ◌≤◌, length, get_or, take};
 ghost use Rattle.rules.specs.Items.{good, spot};
 ghost use Rattle.rules.specs.Fields.{read, judge, ◌⨾◌};
 ghost use Rattle.rules.specs.Layouts.{layouts, kept};
 ghost use Rattle.rules.specs.Records.{sequence, bytes, numbered, read_line};
 ghost use Rattle.rules.specs.Chapter4.{chapter4};
-ghost use Rattle.kinds.specs.Values.{judged_of, expect_of};
+ghost use Rattle.kinds.specs.Values.{judged_of, expect_of, kind_index};
 ghost use Rattle.judging.specs.Judging.{clean};
 
 use crate::bytes::find_bad;
@@ -14,7 +14,7 @@ use crate::fields::judge_fields;
 use crate::spots::{FieldKind, first_bad};
 use columns::numbers::good_number;
 use columns::sets::all_within;
-use kinds::{Expect, Flaw, Record};
+use kinds::{Expect, Flaw, Kind, Record};
 
 // Nothing is wrong with the bytes: one test of all columns at once, since hardly a line fails it.
 fn is_clean(line: &[u8]) -> bool
@@ -57,9 +57,9 @@ fn spot_number(line: &[u8]) -> usize
 }
 
 // Columns 1-6, then the fields of the kind.
-pub fn judge_rest(line: &[u8], kind: usize, e: Expect) -> Result<(), Flaw>
-    requires { (80 ≤ length line.now) × (kind < 14) }
-    ensures { result ≡ judged_of (numbered chapter4 line.now ⨾ judge (expect_of e) (map (read line.now) (get_or layouts kind kept))) }
+pub fn judge_rest(line: &[u8], kind: Kind, e: Expect) -> Result<(), Flaw>
+    requires { 80 ≤ length line.now }
+    ensures { result ≡ judged_of (numbered chapter4 line.now ⨾ judge (expect_of e) (map (read line.now) (get_or layouts (kind_index kind) kept))) }
 {
     if has_number(line) {
         return judge_fields(line, kind, e);
@@ -72,9 +72,6 @@ pub fn judge_alone(line: &[u8]) -> Result<(), Flaw>
     ensures { result ≡ judged_of (read_line chapter4 line.now) }
 {
     judge_bytes(line)?;
-    let kind = kind_at(line);
-    if 13 < kind {
-        return Err(Flaw::new(6, Record::CODE));
-    }
+    let kind = kind_at(line).ok_or(Flaw::new(6, Record::CODE))?;
     judge_rest(line, kind, Expect::Anything)
 }

@@ -13,6 +13,8 @@ use Rattle.rules.specs.Calls as calls
 use Rattle.columns.specs.Types.{count_of, nat_of, int_of, height_of, height_value, media_of, media_value, four, four_of}
 use Rattle.kinds.specs.declared.Two.{Two}
 use Rattle.kinds.specs.declared.Three.{Three}
+use Rattle.kinds.specs.declared.Kind.{Kind}
+use Rattle.kinds.specs.declared.Kind.TheVariants as K
 use Rattle.kinds.specs.declared.Record.{Record}
 use Rattle.kinds.specs.declared.Record.TheVariants as R
 use Rattle.kinds.specs.declared.Fault.{Fault}
@@ -38,6 +40,27 @@ three t = record { 0 = get_or t 0 0; 1 = get_or t 1 0; 2 = get_or t 2 0 }
 
 unfoldable pub three_text : Three → List ℕ
 three_text t = t.0 ∷ t.1 ∷ t.2 ∷ []
+
+-- ---- kinds by 01's number, and 14 for a code that is of no kind
+unfoldable pub kind_index : Kind → ℕ
+kind_index K.Job = 0
+kind_index K.Title = 1
+kind_index K.Continuation = 2
+kind_index K.Project = 3
+kind_index K.Occupation = 4
+kind_index K.Comment = 5
+kind_index K.Measurement = 6
+kind_index K.Instrument = 7
+kind_index K.Antenna = 8
+kind_index K.Point = 9
+kind_index K.Heights = 10
+kind_index K.Network = 11
+kind_index K.Local = 12
+kind_index K.Factor = 13
+
+unfoldable pub kind_in : Option Kind → ℕ
+kind_in None = 14
+kind_in (Some k) = kind_index k
 
 -- ---- records: the kind, the code in columns 7-10, and the values from column 11 on, with the texts of more than four columns given in column order
 unfoldable pub kind_number : Record → ℕ

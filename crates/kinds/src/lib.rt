@@ -6,9 +6,10 @@ use columns::{Four, Height, Media};
 pub mod accuracies;
 pub mod tables;
 
-ghost use Rattle.std.specs.Prelude.{◌≡◌};
+ghost use Rattle.std.specs.Prelude.{◌≡◌, ◌<◌, min};
 ghost use Rattle.rules.specs.Tests.{◌&◌};
 ghost use Rattle.rules.specs.Characters.{is_letter, letter, digit, ◌or◌, member};
+ghost use Rattle.kinds.specs.Values.{kind_index, kind_in, kind_number};
 
 // Two characters.
 #[derive(Clone, Copy)]
@@ -700,6 +701,59 @@ impl Factor {
     }
 }
 
+// The kind of a record, in 01's order.
+#[derive(Clone, Copy, PartialEq, Eq)]
+pub enum Kind {
+    Job,
+    Title,
+    Continuation,
+    Project,
+    Occupation,
+    Comment,
+    Measurement,
+    Instrument,
+    Antenna,
+    Point,
+    Heights,
+    Network,
+    Local,
+    Factor,
+}
+
+impl Kind {
+    // 01's number of it.
+    pub fn index(self) -> usize
+        ensures value { result ≡ kind_index self }
+        ensures small { result < 14 }
+    {
+        self as usize
+    }
+
+    // The kind of a number, none from 14 on.
+    #[tactic(auto, unfolding(crate::specs::Values::kind_in, crate::specs::Values::kind_index))]
+    pub fn with_index(n: u32) -> Option<Kind>
+        ensures { kind_in result ≡ min n 14 }
+    {
+        match n {
+            0 => Some(Kind::Job),
+            1 => Some(Kind::Title),
+            2 => Some(Kind::Continuation),
+            3 => Some(Kind::Project),
+            4 => Some(Kind::Occupation),
+            5 => Some(Kind::Comment),
+            6 => Some(Kind::Measurement),
+            7 => Some(Kind::Instrument),
+            8 => Some(Kind::Antenna),
+            9 => Some(Kind::Point),
+            10 => Some(Kind::Heights),
+            11 => Some(Kind::Network),
+            12 => Some(Kind::Local),
+            13 => Some(Kind::Factor),
+            _ => None,
+        }
+    }
+}
+
 // A record that was read, or is to be written: its values from column 11 on but the texts of more than four columns.
 #[derive(Clone, Copy)]
 pub enum Record {
@@ -728,6 +782,28 @@ impl Record {
     pub const CODE: usize = 7;
 
     pub const CODE_WIDTH: usize = 4;
+
+    #[tactic(auto, unfolding(crate::specs::Values::kind_index, crate::specs::Values::kind_number))]
+    pub fn kind(self) -> Kind
+        ensures { kind_index result ≡ kind_number self }
+    {
+        match self {
+            Record::Job(_) => Kind::Job,
+            Record::Title(_) => Kind::Title,
+            Record::Continuation(_) => Kind::Continuation,
+            Record::Project(_) => Kind::Project,
+            Record::Occupation(_) => Kind::Occupation,
+            Record::Comment(_) => Kind::Comment,
+            Record::Measurement(_) => Kind::Measurement,
+            Record::Instrument(_) => Kind::Instrument,
+            Record::Antenna(_) => Kind::Antenna,
+            Record::Point(_) => Kind::Point,
+            Record::Heights(_) => Kind::Heights,
+            Record::Network(_) => Kind::Network,
+            Record::Local(_) => Kind::Local,
+            Record::Factor(_) => Kind::Factor,
+        }
+    }
 }
 
 // A refusal: 01's number, record and column.

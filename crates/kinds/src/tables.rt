@@ -1,12 +1,13 @@
 // The layouts as tables: for each field of each kind, in the order of the kinds, what stands in it, its first column and its width.
 // Read only through the functions below, since a constant array is copied where it is indexed.
 
-ghost use Rattle.std.specs.Prelude.{◌≡◌, ◌<◌, get_or};
+ghost use Rattle.std.specs.Prelude.{◌≡◌, ◌+◌, ◌<◌, get_or};
 ghost use Rattle.kinds.specs.Tables.{items, ties, bonds, firsts, widths, starts};
+ghost use Rattle.kinds.specs.Values.{kind_index};
 
 use crate::{
-    Antenna, Comment, Continuation, Factor, Heights, Instrument, Job, Local, Measurement, Network,
-    Occupation, Point, Project, Title,
+    Antenna, Comment, Continuation, Factor, Heights, Instrument, Job, Kind, Local, Measurement,
+    Network, Occupation, Point, Project, Title,
 };
 
 // What stands in a field.
@@ -496,9 +497,22 @@ pub fn width_at(i: usize) -> u8
     WIDTHS[i]
 }
 
-pub fn start_at(k: usize) -> u8
+fn start_at(k: usize) -> u8
     requires { k < 15 }
     ensures { result ≡ get_or starts k 0 }
 {
     STARTS[k]
+}
+
+// The first row of a kind, and the one behind its last.
+pub fn first_row(kind: Kind) -> usize
+    ensures { result ≡ get_or starts (kind_index kind) 0 }
+{
+    usize::from(start_at(kind.index()))
+}
+
+pub fn end_row(kind: Kind) -> usize
+    ensures { result ≡ get_or starts (kind_index kind + 1) 0 }
+{
+    usize::from(start_at(kind.index() + 1))
 }

@@ -10,9 +10,13 @@ use lib.Seq.{take_all}
 use Rattle.rules.specs.Characters.{ascii}
 use Rattle.rules.specs.Digits.{numeral}
 use Rattle.rules.specs.Sheet.{tabbed, file_line, kind_names, kind_lines}
+use Rattle.kinds.specs.declared.Kind.{Kind}
+use Rattle.kinds.specs.declared.Kind.TheVariants as K
+use Rattle.kinds.specs.Values.{kind_index}
+use Rattle.kinds.proofs.KindLaws.{index_small}
 use Rattle.kinds.proofs.TableLaws.{each_kind}
 use Rattle.listing.specs.Laying.{laid, Laid}
-use Rattle.listing.specs.Listing.{kind_line, name_bytes, joined}
+use Rattle.listing.specs.Listing.{kind_line}
 use Rattle.listing.proofs.LayLaws.{laid_on}
 
 -- the same text
@@ -32,20 +36,22 @@ module _ (blocks number place column a b c d e : ℕ) (o p q r s t : List ℕ) w
       same_text (file_text blocks number place column) (laid_on (laid_on (laid_on (laid_on u v (omega arith)) (rw k at w) (omega arith)) x (omega arith)) y (omega arith))
 
 -- ---- KIND
-name_is : (k : ℕ) → k < 14 → get_or name_bytes (2 * k) 0 ∷ get_or name_bytes (2 * k + 1) 0 ∷ [] ≡ get_or kind_names k []
-unfolding name_bytes joined kind_names ascii
-name_is =
-    each_kind (λ k. get_or name_bytes (2 * k) 0 ∷ get_or name_bytes (2 * k + 1) 0 ∷ [] ≡ get_or kind_names k [])
+two_long : (k : ℕ) → k < 14 → get_or (get_or kind_names k []) 0 0 ∷ get_or (get_or kind_names k []) 1 0 ∷ [] ≡ get_or kind_names k []
+unfolding kind_names ascii
+two_long =
+    each_kind (λ k. get_or (get_or kind_names k []) 0 0 ∷ get_or (get_or kind_names k []) 1 0 ∷ [] ≡ get_or kind_names k [])
     refl refl refl refl refl refl refl refl refl refl refl refl refl refl
 
 kind_text : (k x y count : ℕ) → x ∷ y ∷ [] ≡ get_or kind_names k [] → (75 ∷ 73 ∷ 78 ∷ 68 ∷ 9 ∷ x ∷ y ∷ 9 ∷ []) ++ (numeral count ++ 10 ∷ []) ≡ kind_line k count
 unfolding kind_line tabbed ascii
 kind_text k x y count e = rw (← e)
 
-module _ (k count x y at e r : ℕ) (o p q : List ℕ) where
-  pub kind_laid : k < 14 → at + 19 ≤ length o → x ≡ get_or name_bytes (2 * k) 0 → y ≡ get_or name_bytes (2 * k + 1) 0 → Laid at 8 (75 ∷ 73 ∷ 78 ∷ 68 ∷ 9 ∷ x ∷ y ∷ 9 ∷ []) o e p
-      → (n : ℕ) → n ≡ count → Laid e 11 (numeral n ++ 10 ∷ []) p r q → Laid at 19 (kind_line k count) o r q
-  kind_laid h room i j u n g v = same_text (kind_text k x y count (rw (i, j) (name_is k h))) (laid_on u (rw g at v) (omega arith))
+module _ (k : Kind) (name : List ℕ) (count at e r : ℕ) (o p q : List ℕ) where
+  pub kind_laid : name ≡ get_or kind_names (kind_index k) [] → at + 19 ≤ length o → Laid at 8 (75 ∷ 73 ∷ 78 ∷ 68 ∷ 9 ∷ get_or name 0 0 ∷ get_or name 1 0 ∷ 9 ∷ []) o e p
+      → (n : ℕ) → n ≡ count → Laid e 11 (numeral n ++ 10 ∷ []) p r q → Laid at 19 (kind_line (kind_index k) count) o r q
+  kind_laid i room u n g v =
+      let two : get_or name 0 0 ∷ get_or name 1 0 ∷ [] ≡ get_or kind_names (kind_index k) [] = rw i (two_long (kind_index k) (index_small k)) in
+      same_text (kind_text (kind_index k) (get_or name 0 0) (get_or name 1 0) count two) (laid_on u (rw g at v) (omega arith))
 
 -- ---- one line more
 lines_snoc : (names : List (List ℕ)) (counts : List ℕ) (k : ℕ) → k < length names → k < length counts
@@ -68,6 +74,14 @@ kinds_on counts k e h = rw add-one (sym (lines_snoc kind_names counts k (omega (
 kinds_all : (counts : List ℕ) → length counts ≡ 14 → kind_lines (take 14 kind_names) (take 14 counts) ≡ kind_lines kind_names counts
 kinds_all counts e = rw (take_all 14 kind_names (omega (arith, names_fourteen)), take_all 14 counts (omega arith))
 
+-- the kinds in the order of the sheet, which is that of their numbers
+abbrev pub sheet_kinds : List Kind
+sheet_kinds = K.Job ∷ K.Title ∷ K.Continuation ∷ K.Project ∷ K.Occupation ∷ K.Comment ∷ K.Measurement ∷ K.Instrument ∷ K.Antenna ∷ K.Point ∷ K.Heights ∷ K.Network ∷ K.Local ∷ K.Factor ∷ []
+
+in_order : (d : Kind) (i : ℕ) → i < 14 → kind_index (get_or sheet_kinds i d) ≡ i
+unfolding kind_index
+in_order d = each_kind (λ i. kind_index (get_or sheet_kinds i d) ≡ i) refl refl refl refl refl refl refl refl refl refl refl refl refl refl
+
 -- the lines of the first k kinds
 pub record Listed (from : ℕ) (counts o : List ℕ) (at k : ℕ) (left : List ℕ) : Type 0 where
   pub some : k ≤ 14
@@ -84,8 +98,10 @@ module _ (from : ℕ) (counts o : List ℕ) where
   list_from = record { some = omega arith; sofar = unfold kind_lines in none_laid from o }
 
   module _ (at k : ℕ) (left : List ℕ) (l : Listed from counts o at k left) where
-    pub list_on : length counts ≡ 14 → k < 14 → from + 266 ≤ length o → {r : ℕ} {new : List ℕ} → Laid at 19 (kind_line k (get_or counts k 0)) left r new → Listed from counts o r (k + 1) new
-    list_on e h room {r} {new} p =
+    pub list_on : length counts ≡ 14 → k < 14 → from + 266 ≤ length o → (d : Kind) (j : ℕ) → j ≡ kind_index (get_or sheet_kinds k d)
+        → {r : ℕ} {new : List ℕ} → Laid at 19 (kind_line (kind_index (get_or sheet_kinds k d)) (get_or counts j 0)) left r new → Listed from counts o r (k + 1) new
+    list_on e h room d j its {r} {new} laid =
+        let p : Laid at 19 (kind_line k (get_or counts k 0)) left r new = rw (its, in_order d k h) at laid in
         let m : 19 * k + 19 ≡ 19 * (k + 1) = omega arith in
         record { some = omega arith; sofar = rw m at (same_text (kinds_on counts k e h) (laid_on l.sofar p (omega arith))) }
 

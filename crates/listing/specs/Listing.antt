@@ -38,11 +38,3 @@ listed_in blocks (Err g) = file_line blocks g.number g.«record» g.column
 unfoldable pub kind_line : ℕ → ℕ → List ℕ
 unfolding ascii
 kind_line k n = tabbed (ascii "KIND" ∷ get_or kind_names k [] ∷ numeral n ∷ [])
-
--- the names of the kinds in a row
-unfoldable pub joined : List (List ℕ) → List ℕ
-joined [] = []
-joined (w ∷ ws) = w ++ joined ws
-
-unfoldable pub name_bytes : List ℕ
-name_bytes = joined kind_names

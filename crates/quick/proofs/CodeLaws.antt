@@ -7,11 +7,18 @@ use native.Mathlib.Omega.{arith}
 use lib.Dec.{leb, eqb}
 use lib.ListN.{length, get_or, take, drop, replicate, get_or-replicate}
 use lib.Seq.{get_or-drop}
-use borrow.Author.Tests.{eqb-true}
+use borrow.Author.Tests.{eqb-true, eqb-false}
 use Rattle.rules.specs.Tests.{◌≤?◌, ◌=?◌, all}
 use Rattle.rules.specs.Fields.{Expect, meets}
 use Rattle.rules.proofs.Truth.{to≤, no≤, cases, above_0, both_true}
+use denote.Enum.Bare.{sameb}
+use Rattle.kinds.specs.contracts.Kind.{the_type}
+use Rattle.kinds.specs.declared.Kind.{Kind}
+use Rattle.kinds.specs.declared.Kind.TheVariants as K
+use Rattle.kinds.specs.Values.{kind_index, kind_in}
+use Rattle.std.specs.Prelude.{Option, Some}
 use Rattle.kinds.specs.Tables.{row_lists}
+use Rattle.kinds.proofs.KindLaws.{index_small, same_index}
 use Rattle.quick.specs.Rows.{class_table, col_at, five_at, Columns, text_at, five_texts, Texts, is_text}
 use Rattle.quick.specs.Rest.{low_val, some, between, not_zero, media_rest, zeros, alike, datum_rest, latitude_rest, longitude_rest, correlation_rest, sequence_rest, item_rest, bond_rest, rest_from, Fit}
 use Rattle.quick.proofs.ClassLaws.{spread, spread_is}
@@ -183,12 +190,12 @@ module _ (e : Expect) (l : List ℕ) where
   unfolding rest_from item_rest bond_rest
   local_is p q r s t = rw (p, q, r, s, t)
 
-  pub kind_rest : (kind j : ℕ) → kind ≡ j → (t : Bool) → t ≡ rest_from true e l (get_or row_lists j []) → t ≡ true → rest_from true e l (get_or row_lists kind []) ≡ true
+  pub kind_rest : (k j : Kind) → k ≡ j → (t : Bool) → t ≡ rest_from true e l (get_or row_lists (kind_index j) []) → t ≡ true → rest_from true e l (get_or row_lists (kind_index k) []) ≡ true
   kind_rest kind j z t h k = rw z (sym h ∙ k)
 
 -- ---- the kind that is all text, *26*
-pub text_rest : (e : Expect) (l : List ℕ) (kind : ℕ) → kind ≡ 5 → true ≡ true → rest_from true e l (get_or row_lists kind []) ≡ true
-unfolding rest_from item_rest bond_rest
+pub text_rest : (e : Expect) (l : List ℕ) (kind : Kind) → kind ≡ K.Comment → true ≡ true → rest_from true e l (get_or row_lists (kind_index kind) []) ≡ true
+unfolding rest_from item_rest bond_rest kind_index
 text_rest e l kind z t = rw z
 
 text_kind : (k : ℕ) → is_text k ≡ true → TextFrom17 (get_or class_table k [])
@@ -196,17 +203,24 @@ unfolding is_text
 text_kind k h = rw (eqb-true k 5 h) record { low = refl; high = refl; free = refl }
 
 -- ---- the columns, and the whole
-module _ (l : List ℕ) (k : ℕ) (t : List (List (List ℕ))) (c : t ≡ class_table) where
-  pub columns_fit : (a : Bool) → (a ≡ true → Columns (get_or t k []) l) → a ≡ true → Columns (get_or class_table k []) l
-  columns_fit a f q = rw c at (f q)
+module _ (l : List ℕ) (kind : Kind) (k : ℕ) (i : k ≡ kind_index kind) (t : List (List (List ℕ))) (c : t ≡ class_table) where
+  pub columns_fit : (a : Bool) → (a ≡ true → Columns (get_or t k []) l) → a ≡ true → Columns (get_or class_table (kind_index kind) []) l
+  columns_fit a f q = rw (c, i) at (f q)
 
-  pub texts_fit : (i : Bool) → i ≡ is_text k → i ≡ true → (a : Bool) → (a ≡ true → Texts (get_or t k []) l) → a ≡ true → Columns (get_or class_table k []) l
-  texts_fit i p z a f q = texts-columns (get_or class_table k []) l (text_kind k (sym p ∙ z)) (rw c at (f q))
+  pub texts_fit : (b : Bool) → b ≡ is_text (kind_index kind) → b ≡ true → (a : Bool) → (a ≡ true → Texts (get_or t k []) l) → a ≡ true → Columns (get_or class_table (kind_index kind) []) l
+  texts_fit b p z a f q = texts-columns (get_or class_table (kind_index kind) []) l (text_kind (kind_index kind) (sym p ∙ z)) (rw (c, i) at (f q))
 
-pub fits_whole : (e : Expect) (l : List ℕ) (k : ℕ) → (k ≡ 0 → ⊥) → k < 14 → 80 < length l → (a : Bool) → (a ≡ true → Columns (get_or class_table k []) l) → (b : Bool) → b ≡ sequence_rest l
-    → (d : Bool) → (d ≡ true → rest_from true e l (get_or row_lists k []) ≡ true) → (a && b && eqb (get_or l 80 0) 10 && d) ≡ true → Fit l k e
-fits_whole e l k low high long a f b s d g h =
+pub no_job : (k : Kind) (b : Bool) → b ≡ sameb the_type k K.Job → b ≡ false → kind_index k ≡ 0 → ⊥
+unfolding kind_index
+no_job k b e h z = eqb-false (kind_index k) 0 (sym (e ∙ same_index k K.Job) ∙ h) z
+
+pub fits_whole : (e : Expect) (l : List ℕ) (o : Option Kind) (kind : Kind) → o ≡ Some kind → (kind_index kind ≡ 0 → ⊥) → 80 < length l → (a : Bool) → (a ≡ true → Columns (get_or class_table (kind_index kind) []) l) → (b : Bool) → b ≡ sequence_rest l
+    → (d : Bool) → (d ≡ true → rest_from true e l (get_or row_lists (kind_index kind) []) ≡ true) → (a && b && eqb (get_or l 80 0) 10 && d) ≡ true → Fit l (kind_in o) e
+unfolding kind_in
+fits_whole e l o kind known low long a f b s d g h =
+    let k = kind_index kind in
+    let high = index_small kind in
     let x = both_true (a && b && eqb (get_or l 80 0) 10) d h in
     let y = both_true (a && b) (eqb (get_or l 80 0) 10) x.0 in
     let z = both_true a b y.0 in
-    fits_ok e l k (above_0 k low) high long (eqb-true (get_or l 80 0) 10 y.1) (row_from l k high long (f z.0)) (sym s ∙ z.1) (g x.1)
+    rw known (fits_ok e l k (above_0 k low) high long (eqb-true (get_or l 80 0) 10 y.1) (row_from l k high long (f z.0)) (sym s ∙ z.1) (g x.1))

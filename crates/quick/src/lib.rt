@@ -7,26 +7,26 @@ pub mod tables;
 pub mod values;
 
 ghost use Rattle.std.specs.Prelude.{◌≡◌, true};
-ghost use Rattle.kinds.specs.Values.{expect_of};
+ghost use Rattle.kinds.specs.Values.{expect_of, kind_in};
 ghost use Rattle.quick.specs.Rows.{class_table};
 ghost use Rattle.quick.specs.Rest.{Fit};
 
 use crate::rows::fits_columns;
 use crate::values::{has_sequence, has_values};
-use kinds::Expect;
+use kinds::{Expect, Kind};
 
 // A job code is left to the judge, who compares it with the first one.
-pub fn fits(line: &[u8], kind: usize, e: Expect, classes: &[[[u8; 80]; 5]; 14]) -> bool
+pub fn fits(line: &[u8], kind: Option<Kind>, e: Expect, classes: &[[[u8; 80]; 5]; 14]) -> bool
     requires { classes.now ≡ class_table }
-    ensures { result ≡ true → Fit line.now kind (expect_of e) }
+    ensures { result ≡ true → Fit line.now (kind_in kind) (expect_of e) }
 {
     if line.len() <= 80 {
         return false;
     }
-    if kind == 0 {
+    let Some(kind) = kind else {
         return false;
-    }
-    if 14 <= kind {
+    };
+    if kind == Kind::Job {
         return false;
     }
     fits_columns(line, kind, classes)

@@ -2,6 +2,9 @@
 // sixteen columns at once and none by itself.
 ghost use Rattle.std.specs.Prelude.{◌≡◌, true, ◌&&◌, [], ◌<◌, leb, length, get_or};
 ghost use Rattle.quick.specs.Rows.{class_table, col_at, five_at, Columns, five_texts, Texts, is_text};
+ghost use Rattle.kinds.specs.Values.{kind_index};
+
+use kinds::Kind;
 
 fn column(line: &[u8], j: usize, row: &[[u8; 80]; 5]) -> bool
     requires { (80 < length line.now) × (j < 80) }
@@ -63,18 +66,18 @@ fn fits_texts(line: &[u8], row: &[[u8; 80]; 5]) -> bool
     good
 }
 
-fn is_text_kind(kind: usize) -> bool
-    ensures { result ≡ is_text kind }
+fn is_text_kind(kind: Kind) -> bool
+    ensures { result ≡ is_text (kind_index kind) }
 {
-    kind == 5
+    kind == Kind::Comment
 }
 
 // Every column of a line of a kind.
-pub(crate) fn fits_columns(line: &[u8], kind: usize, classes: &[[[u8; 80]; 5]; 14]) -> bool
-    requires { (80 < length line.now) × (kind < 14) × (classes.now ≡ class_table) }
-    ensures { result ≡ true → Columns (get_or class_table kind []) line.now }
+pub(crate) fn fits_columns(line: &[u8], kind: Kind, classes: &[[[u8; 80]; 5]; 14]) -> bool
+    requires { (80 < length line.now) × (classes.now ≡ class_table) }
+    ensures { result ≡ true → Columns (get_or class_table (kind_index kind) []) line.now }
 {
-    let row = &classes[kind];
+    let row = &classes[kind.index()];
     if is_text_kind(kind) {
         return fits_texts(line, row);
     }

@@ -2,12 +2,12 @@
 // together. Columns are counted from 0 here: `at` 10 is 01's column 11.
 ghost use Rattle.std.specs.Prelude.{◌≡◌, true, [], ◌+◌, ◌%◌, ◌≤◌, ◌<◌, length, take, drop, get_or};
 ghost use Rattle.kinds.specs.Tables.{row_lists};
-ghost use Rattle.kinds.specs.Values.{expect_of};
+ghost use Rattle.kinds.specs.Values.{expect_of, kind_index};
 ghost use Rattle.quick.specs.Rest.{low_val, not_zero, between, media_rest, zeros, latitude_rest, longitude_rest, alike, datum_rest, correlation_rest, sequence_rest, rest_from};
 
 use columns::sets::all_are;
 use judging::fields::is_met;
-use kinds::Expect;
+use kinds::{Expect, Kind};
 
 // The last four bits of a digit are its value, and those of a blank are 0.
 fn digit(b: u8) -> u64
@@ -197,20 +197,20 @@ fn has_local(line: &[u8], e: Expect) -> bool
 }
 
 // Of a record of a kind. Where all is text there is nothing to add; *10*, *11*, *12* and *93* come once in a file, and the exact judge has them.
-pub(crate) fn has_values(line: &[u8], kind: usize, e: Expect) -> bool
+pub(crate) fn has_values(line: &[u8], kind: Kind, e: Expect) -> bool
     requires { 80 < length line.now }
-    ensures { result ≡ true → rest_from true (expect_of e) line.now (get_or row_lists kind []) ≡ true }
+    ensures { result ≡ true → rest_from true (expect_of e) line.now (get_or row_lists (kind_index kind) []) ≡ true }
 {
     match kind {
-        4 => has_occupation(line, e),
-        5 => true,
-        6 => has_measurement(line, e),
-        7 => has_instrument(line, e),
-        8 => has_antenna(line, e),
-        9 => has_point(line, e),
-        10 => has_heights(line, e),
-        11 => has_network(line, e),
-        12 => has_local(line, e),
+        Kind::Occupation => has_occupation(line, e),
+        Kind::Comment => true,
+        Kind::Measurement => has_measurement(line, e),
+        Kind::Instrument => has_instrument(line, e),
+        Kind::Antenna => has_antenna(line, e),
+        Kind::Point => has_point(line, e),
+        Kind::Heights => has_heights(line, e),
+        Kind::Network => has_network(line, e),
+        Kind::Local => has_local(line, e),
         _ => false,
     }
 }

@@ -23,12 +23,15 @@ use Rattle.rules.proofs.FileLaws.{reaches}
 use Rattle.kinds.specs.declared.Record.{Record}
 use Rattle.kinds.specs.declared.Flaw.{Flaw}
 use Rattle.kinds.specs.declared.Fault.{Fault}
-use Rattle.kinds.specs.Values.{judged_of, record_of, reading_of}
+use Rattle.kinds.specs.declared.Kind.{Kind}
+use Rattle.kinds.specs.Values.{judged_of, record_of, reading_of, kind_index, kind_in}
+use Rattle.kinds.proofs.KindLaws.{is_some, some_kind}
 use Rattle.kinds.proofs.ValueLaws.{good_is, bad_is}
 use Rattle.columns.proofs.Loops.{&_is}
 use Rattle.reading.specs.Values.{record_in}
 use Rattle.reading.specs.Widths.{width_in}
 use Rattle.reading.proofs.WidthLaws.{field_inside}
+use Rattle.std.specs.Prelude.{Option, Some, IsSome}
 use Rattle.columns.specs.Types.{count_of}
 
 pub there_is : (r n : ℕ) → ((leb 1 r && leb r 99_999) && leb r n) ≡ within 1 99_999 r & r ≤? n
@@ -50,8 +53,8 @@ module _ (l : List ℕ) (h : is_ok (read_line chapter4 l) ≡ true) where
 good_ok : (v : Verdict) → judged_of v ≡ Ok tt → is_ok v ≡ true
 good_ok v e = ap is_ok (good_is v e) ∙ (unfold is_ok in refl)
 
-pub kind_small : (l : List ℕ) (j : Result (Unit {0}) Flaw) → j ≡ judged_of (read_line chapter4 l) → j ≡ Ok tt → (k : ℕ) → k ≡ kind_of (code_at l) → k < 14
-kind_small l j p q k z = omega (arith, reads_kind l (good_ok (read_line chapter4 l) (sym p ∙ q)))
+pub kind_known : (l : List ℕ) (j : Result (Unit {0}) Flaw) → j ≡ judged_of (read_line chapter4 l) → j ≡ Ok tt → (r : Option Kind) → kind_in r ≡ kind_of (code_at l) → IsSome r
+kind_known l j p q r z = is_some r _ z (reads_kind l (good_ok (read_line chapter4 l) (sym p ∙ q)))
 
 -- ---- read
 module _ (l : List ℕ) (n : ℕ) (j : Result (Unit {0}) Flaw) (p : j ≡ judged_of (read_line chapter4 l)) where
@@ -59,10 +62,10 @@ module _ (l : List ℕ) (n : ℕ) (j : Result (Unit {0}) Flaw) (p : j ≡ judged
   unfolding read_as reading_of
   line_refused w q z = rw (z, bad_is (read_line chapter4 l) w (sym p ∙ q))
 
-  pub line_values : j ≡ Ok tt → (k : ℕ) → k ≡ kind_of (code_at l) → (s : Option ℕ) → s ≡ count_of (value_of sequence (take 6 l)) → (r : Record) → r ≡ record_in k l
+  pub line_values : j ≡ Ok tt → (o : Option Kind) → kind_in o ≡ kind_of (code_at l) → (k : Kind) → o ≡ Some k → (s : Option ℕ) → s ≡ count_of (value_of sequence (take 6 l)) → (r : Record) → r ≡ record_in (kind_index k) l
       → Ok (s, r) ≡ reading_of (read_as n l (read_line chapter4 l))
   unfolding read_as reading_of record_of record_in meaning layout
-  line_values q k z s x r y = rw (good_is (read_line chapter4 l) (sym p ∙ q), x, y, z)
+  line_values q o z k h s x r y = rw (good_is (read_line chapter4 l) (sym p ∙ q), x, y, some_kind o k _ z h)
 
 module _ (f : List ℕ) (n : ℕ) (t : Bool) (e : t ≡ within 1 99_999 n & n ≤? begun f) where
   pub read_none : t ≡ false → {x : Fault} → x ≡ record { number = 13; «record» = n; column = 0 } → Err x ≡ reading_of (read_of f n)
@@ -95,12 +98,12 @@ module _ (l : List ℕ) (c : ℕ) (j : Result (Unit {0}) Flaw) (p : j ≡ judged
   unfolding width_in
   width_none t e h = rw (sym (bad t e) ∙ ap not h)
 
-  pub width_some : (t : Bool) → t ≡ is_err j → t ≡ false → (k : ℕ) → k ≡ kind_of (code_at l) → (w : ℕ) → w ≡ field_width c (get_or layouts k kept) → w ≡ width_in l c
+  pub width_some : (t : Bool) → t ≡ is_err j → t ≡ false → (o : Option Kind) → kind_in o ≡ kind_of (code_at l) → (k : Kind) → o ≡ Some k → (w : ℕ) → w ≡ field_width c (get_or layouts (kind_index k) kept) → w ≡ width_in l c
   unfolding width_in layout
-  width_some t e h k z w x = x ∙ sym (rw (sym (bad t e) ∙ ap not h, ← z))
+  width_some t e h o z k q w x = x ∙ sym (rw (sym (bad t e) ∙ ap not h, ← some_kind o k _ z q))
 
-  pub width_kind : (t : Bool) → t ≡ is_err j → t ≡ false → (k : ℕ) → k ≡ kind_of (code_at l) → k < 14
-  width_kind t e h k z = omega (arith, reads_kind l (sym (bad t e) ∙ ap not h))
+  pub width_kind : (t : Bool) → t ≡ is_err j → t ≡ false → (r : Option Kind) → kind_in r ≡ kind_of (code_at l) → IsSome r
+  width_kind t e h r z = is_some r _ z (reads_kind l (sym (bad t e) ∙ ap not h))
 
 module _ (f : List ℕ) (n c : ℕ) where
   -- by the record's line, or by there being none

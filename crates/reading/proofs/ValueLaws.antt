@@ -102,10 +102,6 @@ pub comment_is : (l : List ℕ) → R.Comment record {} ≡ record_in 5 l
 unfolding record_in record_from
 comment_is l = refl
 
--- a record of kind j is one of kind k where the numbers are equal
-pub of_kind_lem : (j k : ℕ) (l : List ℕ) {r : Record} → r ≡ record_in j l → k ≡ j → r ≡ record_in k l
-of_kind_lem j k l z e = z ∙ ap (λ i. record_in i l) (sym e)
-
 -- ---- one field
 few : (n m : ℕ) (l : List ℕ) → n ≤ m → length (take n l) ≤? m ≡ true
 few n m l h = of≤ (omega (arith, length-take_most n l))

@@ -13,7 +13,11 @@ use Rattle.rules.specs.Layouts.{at, station, state, any_text, kept, point, layou
 use Rattle.rules.specs.Calls.{part_width, field_width}
 use Rattle.rules.proofs.Truth.{both, to≤, to≡, of≡, no≡, of≢, cases, above_0}
 use Rattle.rules.proofs.FieldLaws.{covers_end}
+use Rattle.kinds.specs.declared.Kind.{Kind}
+use Rattle.kinds.specs.declared.Kind.TheVariants as K
+use Rattle.kinds.specs.Values.{kind_index}
 use Rattle.kinds.specs.Tables.{row_lists, rows, starts, firsts, widths}
+use Rattle.kinds.proofs.KindLaws.{index_small, other_index}
 use Rattle.kinds.proofs.TableLaws.{each_kind, begins, first_is, width_is, rows_from}
 use Rattle.reading.specs.Widths.{row_width, plain_width}
 
@@ -82,11 +86,14 @@ by_row : (c k : ℕ) → k < 14 → ByRow c k
 unfolding row_width width_from width columns layouts
 by_row c = each_kind (ByRow c) refl refl refl refl refl refl refl refl refl refl refl refl refl refl
 
-pub width_by_row : (k c : ℕ) → k < 14 → (k ≡ 9 → ⊥) → (r : ℕ) → r ≡ row_width c (get_or row_lists k []) → r ≡ field_width c (get_or layouts k kept)
-width_by_row k c h n r z = z ∙ by_row c k h ∙ sym (plain_is c (get_or layouts k kept) (all_plain k h n))
+pub width_by_row : (k : Kind) (c : ℕ) → (k ≡ K.Point → ⊥) → (r : ℕ) → r ≡ row_width c (get_or row_lists (kind_index k) []) → r ≡ field_width c (get_or layouts (kind_index k) kept)
+width_by_row k c n r z =
+    let h = index_small k in
+    let other : kind_index k ≡ 9 → ⊥ = λ e. other_index k K.Point n (e ∙ (unfold kind_index in refl)) in
+    z ∙ by_row c (kind_index k) h ∙ sym (plain_is c (get_or layouts (kind_index k) kept) (all_plain (kind_index k) h other))
 
-pub width_of_point : (k c : ℕ) → k ≡ 9 → (r : ℕ) → r ≡ field_width c point → r ≡ field_width c (get_or layouts k kept)
-unfolding layouts
+pub width_of_point : (k : Kind) (c : ℕ) → k ≡ K.Point → (r : ℕ) → r ≡ field_width c point → r ≡ field_width c (get_or layouts (kind_index k) kept)
+unfolding layouts kind_index
 width_of_point k c e r z = rw e z
 
 -- ---- the loop over a kind's rows
@@ -95,10 +102,10 @@ pub record Sought (c kind end i : ℕ) : Type 0 where
   pub high : end ≤ 87
   pub same : row_width c (slice i end rows) ≡ row_width c (get_or row_lists kind [])
 
-pub seek_from : (c kind : ℕ) → kind < 14 → (s : ℕ) → s ≡ get_or starts (kind + 1) 0 → (end : ℕ) → end ≡ s → (t : ℕ) → t ≡ get_or starts kind 0 → (i : ℕ) → i ≡ t → Sought c kind end i
-seek_from c kind h s p end q t p' i q' =
-    let b = begins kind h in
-    rw (q, p, q', p') record { low = b.low; high = b.high; same = ap (row_width c) b.whole }
+pub seek_from : (c : ℕ) (k : Kind) (end : ℕ) → end ≡ get_or starts (kind_index k + 1) 0 → (i : ℕ) → i ≡ get_or starts (kind_index k) 0 → Sought c (kind_index k) end i
+seek_from c k end p i q =
+    let b = begins (kind_index k) (index_small k) in
+    rw (p, q) record { low = b.low; high = b.high; same = ap (row_width c) b.whole }
 
 module _ {c kind end i : ℕ} (v : Sought c kind end i) (h : i < end) where
   pub below : i < 87

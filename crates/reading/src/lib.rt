@@ -33,7 +33,8 @@ fn read_line(line: &[u8], record: usize) -> Result<(Option<u32>, Record), Fault>
     ensures { result ≡ reading_of (read_as «record» line.now (read_line chapter4 line.now)) }
 {
     judge_alone(line).map_err(|flaw| flaw.in_record(record))?;
-    let kind = kind_at(line);
+    // A line without a fault has a code.
+    let kind = kind_at(line).unwrap();
     Ok((read_sequence(line), read_record(line, kind)))
 }
 
@@ -54,8 +55,7 @@ fn width_in(line: &[u8], column: usize) -> usize
     if judge_alone(line).is_err() {
         return 0;
     }
-    let kind = kind_at(line);
-    field_width(kind, column)
+    field_width(kind_at(line).unwrap(), column)
 }
 
 fn width_asked(file: &[u8], record: usize, column: usize) -> usize

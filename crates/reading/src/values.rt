@@ -2,7 +2,7 @@
 ghost use Rattle.std.specs.Prelude.{◌≡◌, ◌≤◌, ◌-◌, ◌<◌, true, length, take, drop, get_or};
 ghost use Rattle.rules.specs.Items.{value_of, number};
 ghost use Rattle.rules.specs.Records.{sequence};
-ghost use Rattle.kinds.specs.Values.{two, three};
+ghost use Rattle.kinds.specs.Values.{two, three, kind_index};
 ghost use Rattle.columns.specs.Types.{four, nat_of, count_of};
 ghost use Rattle.reading.specs.Values.{nat_in, month_in, signed_in, height_in, project_in, occupation_in, measurement_in, instrument_in, antenna_in, point_in, heights_in, network_in, local_in, factor_in, job_in, record_in};
 
@@ -13,8 +13,8 @@ use columns::numbers::{read_count, read_month, value_of};
 use columns::parts::{byte_at, middle};
 use columns::{Four, Height, Way};
 use kinds::{
-    Antenna, Comment, Continuation, Factor, Heights, Instrument, Job, Local, Measurement, Network,
-    Occupation, Point, Project, Record, Three, Title, Two,
+    Antenna, Comment, Continuation, Factor, Heights, Instrument, Job, Kind, Local, Measurement,
+    Network, Occupation, Point, Project, Record, Three, Title, Two,
 };
 
 pub fn read_sequence(line: &[u8]) -> Option<u32>
@@ -256,65 +256,24 @@ fn read_factor(line: &[u8]) -> Factor
     )
 }
 
-// The first seven kinds.
-fn read_low(line: &[u8], kind: usize) -> Record
-    requires { kind < 7 }
-    ensures { result ≡ record_in kind line.now }
-{
-    if kind < 1 {
-        return Record::Job(read_job(line));
-    }
-    if kind < 2 {
-        return Record::Title(Title::new());
-    }
-    if kind < 3 {
-        return Record::Continuation(Continuation::new());
-    }
-    if kind < 4 {
-        return Record::Project(read_project(line));
-    }
-    if kind < 5 {
-        return Record::Occupation(read_occupation(line));
-    }
-    if kind < 6 {
-        return Record::Comment(Comment::new());
-    }
-    Record::Measurement(read_measurement(line))
-}
-
-// The others.
-fn read_high(line: &[u8], kind: usize) -> Record
-    requires { (7 ≤ kind) × (kind < 14) }
-    ensures { result ≡ record_in kind line.now }
-{
-    if kind < 8 {
-        return Record::Instrument(read_instrument(line));
-    }
-    if kind < 9 {
-        return Record::Antenna(read_antenna(line));
-    }
-    if kind < 10 {
-        return Record::Point(read_point(line));
-    }
-    if kind < 11 {
-        return Record::Heights(read_heights(line));
-    }
-    if kind < 12 {
-        return Record::Network(read_network(line));
-    }
-    if kind < 13 {
-        return Record::Local(read_local(line));
-    }
-    Record::Factor(read_factor(line))
-}
-
 // The record of a line of a kind.
-pub fn read_record(line: &[u8], kind: usize) -> Record
-    requires { kind < 14 }
-    ensures { result ≡ record_in kind line.now }
+pub fn read_record(line: &[u8], kind: Kind) -> Record
+    ensures { result ≡ record_in (kind_index kind) line.now }
 {
-    if kind < 7 {
-        return read_low(line, kind);
+    match kind {
+        Kind::Job => Record::Job(read_job(line)),
+        Kind::Title => Record::Title(Title::new()),
+        Kind::Continuation => Record::Continuation(Continuation::new()),
+        Kind::Project => Record::Project(read_project(line)),
+        Kind::Occupation => Record::Occupation(read_occupation(line)),
+        Kind::Comment => Record::Comment(Comment::new()),
+        Kind::Measurement => Record::Measurement(read_measurement(line)),
+        Kind::Instrument => Record::Instrument(read_instrument(line)),
+        Kind::Antenna => Record::Antenna(read_antenna(line)),
+        Kind::Point => Record::Point(read_point(line)),
+        Kind::Heights => Record::Heights(read_heights(line)),
+        Kind::Network => Record::Network(read_network(line)),
+        Kind::Local => Record::Local(read_local(line)),
+        Kind::Factor => Record::Factor(read_factor(line)),
     }
-    read_high(line, kind)
 }

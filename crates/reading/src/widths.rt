@@ -1,12 +1,13 @@
 // The width of the field that starts at a column of a record of a kind.
-ghost use Rattle.std.specs.Prelude.{◌≡◌, [], ◌<◌, get_or};
+ghost use Rattle.std.specs.Prelude.{◌≡◌, [], get_or};
 ghost use Rattle.rules.specs.Layouts.{layouts, kept, point};
 ghost use Rattle.rules.specs.Calls.{field_width};
 ghost use Rattle.kinds.specs.Tables.{row_lists};
+ghost use Rattle.kinds.specs.Values.{kind_index};
 ghost use Rattle.reading.specs.Widths.{row_width, plain_width};
 
-use kinds::Point;
-use kinds::tables::{first_at, start_at, width_at};
+use kinds::tables::{end_row, first_at, first_row, width_at};
+use kinds::{Kind, Point};
 
 // A control point has the only angles, and an angle and its letter are two fields in one row of the tables.
 fn point_width(column: usize) -> usize
@@ -50,11 +51,10 @@ fn plain_point_width(column: usize) -> usize
 }
 
 // The width of the row that starts at the column.
-fn row_width(kind: usize, column: usize) -> usize
-    requires { kind < 14 }
-    ensures { result ≡ row_width column (get_or row_lists kind []) }
+fn row_width(kind: Kind, column: usize) -> usize
+    ensures { result ≡ row_width column (get_or row_lists (kind_index kind) []) }
 {
-    for i in usize::from(start_at(kind))..usize::from(start_at(kind + 1)) {
+    for i in first_row(kind)..end_row(kind) {
         if column == usize::from(first_at(i)) {
             return usize::from(width_at(i));
         }
@@ -63,12 +63,11 @@ fn row_width(kind: usize, column: usize) -> usize
 }
 
 // 0 where no field starts.
-pub fn field_width(kind: usize, column: usize) -> usize
-    requires { kind < 14 }
-    ensures { result ≡ field_width column (get_or layouts kind kept) }
+pub fn field_width(kind: Kind, column: usize) -> usize
+    ensures { result ≡ field_width column (get_or layouts (kind_index kind) kept) }
 {
-    if kind == 9 {
-        return point_width(column);
+    match kind {
+        Kind::Point => point_width(column),
+        _ => row_width(kind, column),
     }
-    row_width(kind, column)
 }

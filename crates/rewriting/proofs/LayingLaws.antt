@@ -16,6 +16,10 @@ use Rattle.rules.proofs.Truth.{both, to≤}
 use Rattle.rules.proofs.RecordLaws.{line_meant, line_long, style-length}
 use Rattle.rules.proofs.FileLaws.{records, lines_more, lines_none, length-take_most, Laid, laid_next, laid_done, formed_whole}
 use Rattle.rules.proofs.Chapter4Laws.{sound}
+use Rattle.std.specs.Prelude.{Option, IsSome}
+use Rattle.kinds.specs.declared.Kind.{Kind}
+use Rattle.kinds.specs.Values.{kind_in}
+use Rattle.kinds.proofs.KindLaws.{is_some}
 
 -- the lines of f in house style
 abbrev styled_from : List ℕ → ℕ → List ℕ
@@ -74,9 +78,12 @@ module _ (f : List ℕ) (r : ℕ) (o₀ : List ℕ) (n : ℕ) (o : List ℕ) (i 
         let small : length l ≤ 81 = rw el (unfold line_at in length-take_most 81 (drop (81 * i) f)) in
         omega arith
 
-    pub lay-known : (k : ℕ) → k ≡ kind_of (code_at l) → k < 14
+    pub lay-known : (o : Option Kind) → kind_in o ≡ kind_of (code_at l) → IsSome o
     unfolding formed_line known
-    lay-known k e = let q : kind_of (code_at l) ≤ 13 = to≤ (both (both (both lay-formed).0).0).1 in omega arith
+    lay-known o e = is_some o _ e below
+      where
+        below : kind_of (code_at l) < 14
+        below = let q : kind_of (code_at l) ≤ 13 = to≤ (both (both (both lay-formed).0).0).1 in omega arith
 
     pub lay_next : (s : List ℕ) → s ≡ line_of chapter4 (num (pos (10 * (r + i)))) (meaning chapter4 l)
         → Laying f r o₀ n (take (81 * i) o ++ (s ++ drop (81 * i + 81 - 81 * i) (drop (81 * i) o))) (i + 1)

@@ -12,8 +12,8 @@ use reading::lines::{count_begun, line};
 use styling::styles::restyle;
 use walk::judge;
 
-// Each record in house style, the first of them being record `first`, record r with the sequence number 10 x r. The lines are good, so none
-// is judged again.
+// Each record in house style, the first of them being record `first`, record r with the sequence number 10 x r. The lines are good, so each has
+// a code, and none is judged again.
 pub fn style_lines(file: &[u8], first: u32, out: &mut [u8])
     requires { (1 ≤ first) × (first ≤ 99_999) × (formed_lines chapter4 first (lines file.now) ≡ true) × (length file.now ≤ length out.old) }
     ensures { out.new ≡ join (styles chapter4 first (meanings chapter4 file.now)) ++ drop (length file.now) out.old }
@@ -23,7 +23,8 @@ pub fn style_lines(file: &[u8], first: u32, out: &mut [u8])
         let l = line(file, i);
         let a = 81 * i;
         let e = a + 81;
-        restyle(l, kind_at(l), 10 * (first + i as u32), &mut out[a..e]);
+        let kind = kind_at(l).unwrap();
+        restyle(l, kind, 10 * (first + i as u32), &mut out[a..e]);
     }
 }
 

@@ -24,6 +24,9 @@ use Rattle.rules.proofs.RecordLaws.{line_meant}
 use Rattle.rules.proofs.DigitLaws.{length-put}
 use Rattle.rules.proofs.FieldLaws.{covers_end}
 use Rattle.rules.proofs.Chapter4Laws.{layout-covers}
+use Rattle.kinds.specs.declared.Kind.{Kind}
+use Rattle.kinds.specs.declared.Kind.TheVariants as K
+use Rattle.kinds.specs.Values.{kind_index}
 use Rattle.kinds.specs.Tables.{Row, row_lists, item_of, field_of}
 use Rattle.kinds.proofs.TableLaws.{rows_are_layouts, each_kind}
 use Rattle.styling.specs.Laying.{roomy, lay, lay_fields}
@@ -163,24 +166,22 @@ unfolding all narrow field_of ◌&◌ ◌≤?◌
 rows_narrow = each_kind (λ k. all narrow_row (get_or row_lists k []) ≡ true) refl refl refl refl refl refl refl refl refl refl refl refl refl refl
 
 -- a kind without numbers, heights and angles
-pub rest_stays : (l : List ℕ) (kind : ℕ) → kind < 14 → (kind ≡ 4 → ⊥) → (kind ≡ 6 → ⊥) → (kind ≡ 7 → ⊥) → (kind ≡ 8 → ⊥) → (kind ≡ 9 → ⊥) → (kind ≡ 10 → ⊥)
-    → (kind ≡ 11 → ⊥) → (kind ≡ 12 → ⊥) → (kind ≡ 13 → ⊥) → l ≡ change_rows (get_or row_lists kind []) l
-unfolding change_rows change_field field_of
-rest_stays l = each_kind (λ k. (k ≡ 4 → ⊥) → (k ≡ 6 → ⊥) → (k ≡ 7 → ⊥) → (k ≡ 8 → ⊥) → (k ≡ 9 → ⊥) → (k ≡ 10 → ⊥) → (k ≡ 11 → ⊥) → (k ≡ 12 → ⊥) → (k ≡ 13 → ⊥) → l ≡ change_rows (get_or row_lists k []) l)
-    (λ a b c d e f g h i. refl)
-    (λ a b c d e f g h i. refl)
-    (λ a b c d e f g h i. refl)
-    (λ a b c d e f g h i. refl)
-    (λ a b c d e f g h i. absurd (a refl))
-    (λ a b c d e f g h i. refl)
-    (λ a b c d e f g h i. absurd (b refl))
-    (λ a b c d e f g h i. absurd (c refl))
-    (λ a b c d e f g h i. absurd (d refl))
-    (λ a b c d e f g h i. absurd (e refl))
-    (λ a b c d e f g h i. absurd (f refl))
-    (λ a b c d e f g h i. absurd (g refl))
-    (λ a b c d e f g h i. absurd (h refl))
-    (λ a b c d e f g h i. absurd (i refl))
+pub rest_stays : (l : List ℕ) (k : Kind) → (k ≡ K.Occupation → ⊥) → (k ≡ K.Measurement → ⊥) → (k ≡ K.Instrument → ⊥) → (k ≡ K.Antenna → ⊥) → (k ≡ K.Point → ⊥) → (k ≡ K.Heights → ⊥) → (k ≡ K.Network → ⊥) → (k ≡ K.Local → ⊥) → (k ≡ K.Factor → ⊥) → l ≡ change_rows (get_or row_lists (kind_index k) []) l
+unfolding change_rows change_field field_of kind_index
+rest_stays l K.Job a b c d e f g h i = refl
+rest_stays l K.Title a b c d e f g h i = refl
+rest_stays l K.Continuation a b c d e f g h i = refl
+rest_stays l K.Project a b c d e f g h i = refl
+rest_stays l K.Occupation a b c d e f g h i = absurd (a refl)
+rest_stays l K.Comment a b c d e f g h i = refl
+rest_stays l K.Measurement a b c d e f g h i = absurd (b refl)
+rest_stays l K.Instrument a b c d e f g h i = absurd (c refl)
+rest_stays l K.Antenna a b c d e f g h i = absurd (d refl)
+rest_stays l K.Point a b c d e f g h i = absurd (e refl)
+rest_stays l K.Heights a b c d e f g h i = absurd (f refl)
+rest_stays l K.Network a b c d e f g h i = absurd (g refl)
+rest_stays l K.Local a b c d e f g h i = absurd (h refl)
+rest_stays l K.Factor a b c d e f g h i = absurd (i refl)
 
 -- ---- the whole line
 rows-laid : (line : List ℕ) (rs : List Row) (out : List ℕ) → style_rows line rs out ≡ lay_fields (map field_of rs) (values (map field_of rs) line) out

@@ -6,6 +6,7 @@ ghost use Rattle.rules.specs.Records.{code_at, formed_line, meaning, line_of};
 ghost use Rattle.rules.specs.Kinds.{kind_of};
 ghost use Rattle.rules.specs.Chapter4.{chapter4};
 ghost use Rattle.kinds.specs.Tables.{row_lists, accuracy_rows};
+ghost use Rattle.kinds.specs.Values.{kind_index};
 ghost use Rattle.styling.specs.Styling.{filled, rise_stands, metres_stands, height_anew, height_style, sided, angle_stands, angle_style, changed, change_rows};
 
 use crate::laying::{lay_number, lay_one};
@@ -16,7 +17,8 @@ use columns::sets::all_blank;
 use columns::writers::put_text;
 use kinds::accuracies::{CORRELATION, EAST, ELLIPSOID};
 use kinds::{
-    Antenna, Factor, Heights, Instrument, Local, Measurement, Network, Occupation, Point, Record,
+    Antenna, Factor, Heights, Instrument, Kind, Local, Measurement, Network, Occupation, Point,
+    Record,
 };
 
 // What stands before the digits of a number, signed or not, is a zero in house style.
@@ -235,26 +237,26 @@ fn style_factor(line: &mut [u8])
 }
 
 // Columns 11-80. The other kinds have nothing that could be in another style.
-fn style_fields(line: &mut [u8], kind: usize)
-    requires { (length line.old ≡ 81) × (kind < 14) }
-    ensures { line.new ≡ change_rows (get_or row_lists kind []) line.old }
+fn style_fields(line: &mut [u8], kind: Kind)
+    requires { length line.old ≡ 81 }
+    ensures { line.new ≡ change_rows (get_or row_lists (kind_index kind) []) line.old }
 {
     match kind {
-        4 => style_occupation(line),
-        6 => style_measurement(line),
-        7 => style_instrument(line),
-        8 => style_antenna(line),
-        9 => style_point(line),
-        10 => style_heights(line),
-        11 => style_network(line),
-        12 => style_local(line),
-        13 => style_factor(line),
+        Kind::Occupation => style_occupation(line),
+        Kind::Measurement => style_measurement(line),
+        Kind::Instrument => style_instrument(line),
+        Kind::Antenna => style_antenna(line),
+        Kind::Point => style_point(line),
+        Kind::Heights => style_heights(line),
+        Kind::Network => style_network(line),
+        Kind::Local => style_local(line),
+        Kind::Factor => style_factor(line),
         _ => {}
     }
 }
 
-pub fn restyle(line: &[u8], kind: usize, number: u32, out: &mut [u8])
-    requires { (length line.now ≡ 81) × (length out.old ≡ 81) × (kind < 14) × (kind ≡ kind_of (code_at line.now)) × (formed_line chapter4 line.now ≡ true) × (1 ≤ number) × (number ≤ 999_999) }
+pub fn restyle(line: &[u8], kind: Kind, number: u32, out: &mut [u8])
+    requires { (length line.now ≡ 81) × (length out.old ≡ 81) × (kind_index kind ≡ kind_of (code_at line.now)) × (formed_line chapter4 line.now ≡ true) × (1 ≤ number) × (number ≤ 999_999) }
     ensures { out.new ≡ line_of chapter4 (num (pos number)) (meaning chapter4 line.now) }
 {
     put_text(out, line);

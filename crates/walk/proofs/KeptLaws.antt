@@ -1,6 +1,6 @@
 -- What is kept of the records before: one law for each way through the functions, and that it is what the rules keep.
 use mathlib.Core.Path.{◌≡◌, refl, sym, ◌∙◌, ap}
-use mathlib.Core.Bool.{Bool, true, false, cond, not, ◌||◌}
+use mathlib.Core.Bool.{Bool, true, false, cond, not, ◌&&◌, ◌||◌}
 use mathlib.Core.List.{List, [], ◌∷◌}
 use Prim.Native.Nat.{ℕ, ◌≤◌}
 use native.Mathlib.Omega.{arith}
@@ -15,7 +15,12 @@ use Rattle.rules.proofs.Truth.{both, to≡, of≡, of≢, cases}
 use Rattle.columns.specs.Types.{four, four_of}
 use Rattle.columns.proofs.LabelLaws.{four_back}
 use Rattle.kinds.specs.declared.Expect.TheVariants as X
-use Rattle.kinds.specs.Values.{expect_of}
+use denote.Enum.Bare.{sameb}
+use Rattle.kinds.specs.contracts.Kind.{the_type}
+use Rattle.kinds.specs.declared.Kind.{Kind}
+use Rattle.kinds.specs.declared.Kind.TheVariants as K
+use Rattle.kinds.specs.Values.{expect_of, kind_index}
+use Rattle.kinds.proofs.KindLaws.{other_index, same_index}
 use Rattle.walk.specs.declared.kept.Kept.{Kept}
 use Rattle.judging.proofs.CodeLaws.{at_column}
 use Rattle.walk.specs.Keeping.{job_of, past_of, expect_in, foreign, latest_in, moved_of}
@@ -48,30 +53,34 @@ module _ (s : Kept) (k : ℕ) where
       rw (← e) (cases (k =? *27*) (λ a. rw a) (λ a. cases (k =? *86*) (λ b. rw (a, b)) (λ b. cases (k =? *70*) (λ d. rw (a, b, d)) (λ d. cases (k =? *72*) (λ g. rw (a, b, d, g)) (λ g. rw (a, b, d, g))))))
 
   module _ (a b : ℕ) where
-    pub foreign_data : (k ≡ 0 → ⊥) → false ≡ foreign s k a b
-    unfolding foreign
-    foreign_data h = rw (of≢ h)
-
-    pub foreign-first : k ≡ 0 → s.place ≡ 0 → false ≡ foreign s k a b
+    pub foreign_is : (eqb k 0 && not (eqb s.place 0) && (not (eqb a s.first) || not (eqb b s.second))) ≡ foreign s k a b
     unfolding foreign ◌=?◌
-    foreign-first h e = rw (h, e)
-
-    pub foreign_last : k ≡ 0 → (s.place ≡ 0 → ⊥) → (not (eqb a s.first) || not (eqb b s.second)) ≡ foreign s k a b
-    unfolding foreign
-    foreign_last h e = rw (of≡ h, of≢ e) (unfold ◌=?◌ in either_not (eqb a s.first) (eqb b s.second))
+    foreign_is = by (eqb k 0) (eqb s.place 0) (eqb a s.first) (eqb b s.second)
       where
-        either_not : (x y : Bool) → (not x || not y) ≡ not (x & y)
-        either_not true true = unfold ◌&◌ in refl
-        either_not true false = unfold ◌&◌ in refl
-        either_not false y = unfold ◌&◌ in refl
+        by : (i j x y : Bool) → (i && not j && (not x || not y)) ≡ cond i (cond j false (not (x & y))) false
+        by false j x y = refl
+        by true true x y = refl
+        by true false true true = unfold ◌&◌ in refl
+        by true false true false = unfold ◌&◌ in refl
+        by true false false y = unfold ◌&◌ in refl
 
-pub latest_same : (k asked lead old : ℕ) → k ≡ asked → lead ≡ latest_in k asked lead old
-unfolding latest_in
-latest_same k asked lead old e = rw (of≡ e)
+-- by the kind
+pub expect_others : (s : Kept) (k : Kind) → (k ≡ K.Measurement → ⊥) → (k ≡ K.Instrument → ⊥) → (k ≡ K.Antenna → ⊥) → (k ≡ K.Heights → ⊥) → X.Anything ≡ expect_in s (kind_index k)
+unfolding kind_index
+expect_others s k a b c d = expect_none s (kind_index k) (other_index k K.Measurement a) (other_index k K.Instrument b) (other_index k K.Antenna c) (other_index k K.Heights d)
 
-pub latest_other : (k asked lead old : ℕ) → (k ≡ asked → ⊥) → old ≡ latest_in k asked lead old
-unfolding latest_in
-latest_other k asked lead old e = rw (of≢ e)
+pub foreign_kind : (s : Kept) (k : Kind) (a b : ℕ) (i : Bool) → i ≡ sameb the_type k K.Job → (i && not (eqb s.place 0) && (not (eqb a s.first) || not (eqb b s.second))) ≡ foreign s (kind_index k) a b
+unfolding kind_index
+foreign_kind s k a b i e = ap (λ t. t && not (eqb s.place 0) && (not (eqb a s.first) || not (eqb b s.second))) (e ∙ same_index k K.Job) ∙ foreign_is s (kind_index k) a b
+
+module _ (k asked : Kind) (lead old : ℕ) (i : Bool) (e : i ≡ sameb the_type k asked) where
+  pub latest_same : i ≡ true → lead ≡ latest_in (kind_index k) (kind_index asked) lead old
+  unfolding latest_in ◌=?◌
+  latest_same h = rw (sym (e ∙ same_index k asked) ∙ h)
+
+  pub latest_other : i ≡ false → old ≡ latest_in (kind_index k) (kind_index asked) lead old
+  unfolding latest_in ◌=?◌
+  latest_other h = rw (sym (e ∙ same_index k asked) ∙ h)
 
 pub opened_first : (p new old : ℕ) → p ≡ 0 → new ≡ cond (p =? 0) new old
 opened_first p new old e = rw (of≡ e)
@@ -80,12 +89,12 @@ pub opened_later : (p new old : ℕ) → (p ≡ 0 → ⊥) → old ≡ cond (p =
 opened_later p new old e = rw (of≢ e)
 
 pub moved_is : (s : Kept) (next k a b lead : ℕ)
-    → (o : ℕ) → o ≡ latest_in k 7 0 s.group
+    → (o : ℕ) → o ≡ latest_in k (kind_index K.Instrument) 0 s.group
     → (x : ℕ) → x ≡ cond (s.place =? 0) a s.first → (y : ℕ) → y ≡ cond (s.place =? 0) b s.second
-    → (g : ℕ) → g ≡ latest_in k 4 lead o → (p : ℕ) → p ≡ latest_in k 9 lead s.point
-    → (i : ℕ) → i ≡ latest_in k 7 lead s.instrument → (n : ℕ) → n ≡ latest_in k 8 lead s.antenna
+    → (g : ℕ) → g ≡ latest_in k (kind_index K.Occupation) lead o → (p : ℕ) → p ≡ latest_in k (kind_index K.Point) lead s.point
+    → (i : ℕ) → i ≡ latest_in k (kind_index K.Instrument) lead s.instrument → (n : ℕ) → n ≡ latest_in k (kind_index K.Antenna) lead s.antenna
     → record { place = next; first = x; second = y; group = g; point = p; instrument = i; antenna = n } ≡ moved_of s next k a b lead
-unfolding moved_of
+unfolding moved_of kind_index
 moved_is s next k a b lead o eo x ex y ey g eg p ep i ei n en = rw (ex, ey, eg, eo, ep, ei, en)
 
 -- ---- a known code is an asterisk, the two characters that the code looks at, and an asterisk

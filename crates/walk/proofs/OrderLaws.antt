@@ -21,12 +21,6 @@ module _ (rows : List (List ℕ)) (place kind : ℕ) (fit : tabular rows ≡ tru
   unfolding tabular goto
   look_past h = rw (get_d_past rows [] place (omega (arith, to≤ (both fit).0)))
 
-  pub look_unknown : 14 ≤ kind → 0 ≡ goto rows place kind
-  unfolding tabular goto
-  look_unknown h =
-      let row = all_get_d (λ row. length row ≤? 14) rows [] place (both fit).1 (of≤ (omega arith)) in
-      sym (get_d_past (get_or rows place []) 0 kind (omega (arith, to≤ row)))
-
 pub order-tabular : tabular order ≡ true
 unfolding tabular order all ◌≤?◌ ◌&◌
 order-tabular = refl

@@ -7,23 +7,26 @@ use Prim.Native.Nat.{ℕ, ◌+◌, ◌-◌, ◌≤◌, ◌<◌}
 use native.Mathlib.Omega.{arith}
 use lib.ListN.{get_or}
 use lib.Dec.{eqb}
-use Rattle.std.specs.Prelude.{Result, Ok, Err}
+use Rattle.std.specs.Prelude.{Result, Ok, Err, Option, IsSome}
 use Rattle.rules.specs.Tests.{◌&◌, ◌≤?◌, ◌=?◌}
 use Rattle.rules.specs.Fields.{Verdict, ok, fault, check, ◌⨾◌, Check, run}
 use Rattle.rules.specs.Records.{Meaning, code_at, meaning, formed_line, meant}
 use Rattle.rules.specs.Files.{in_record, line_at, begun, lines_from, lines, meanings, refer, reference_verdict, formed_lines}
-use Rattle.rules.specs.Kinds.{kind_of, *25*, *70*, *72*, *80*, *91*, *92*}
+use Rattle.rules.specs.Kinds.{kind_of, known, *25*, *70*, *72*, *80*, *91*, *92*}
 use Rattle.rules.specs.Members.{◌∈◌}
 use Rattle.rules.specs.References.{Family, stations, families, Naming, namings, is_a, number_at, definer, asked, named_check, ref_checks, words}
 use Rattle.rules.specs.Chapter4.{chapter4}
-use Rattle.rules.proofs.Truth.{both, of≤, of>, to≡, of≡, no≡, of≢, cases, above_0}
+use Rattle.rules.proofs.Truth.{both, to≤, of≤, of>, to≡, of≡, no≡, of≢, cases, above_0}
 use Rattle.rules.proofs.RecordLaws.{line_meant}
 use Rattle.rules.proofs.FileLaws.{lines_more, lines_none}
 use Rattle.rules.proofs.ReferenceLaws.{stations_in, family_in, word_in}
 use Rattle.rules.proofs.TableLaws.{own_range, named_range}
 use Rattle.kinds.specs.declared.Flaw.{Flaw}
 use Rattle.kinds.specs.declared.Fault.{Fault}
-use Rattle.kinds.specs.Values.{judged_of, fault_of}
+use Rattle.kinds.specs.declared.Kind.{Kind}
+use Rattle.kinds.specs.declared.Kind.TheVariants as K
+use Rattle.kinds.specs.Values.{judged_of, fault_of, kind_index, kind_in}
+use Rattle.kinds.proofs.KindLaws.{other_index, is_some}
 use Rattle.kinds.proofs.ValueLaws.{flaw, good_is, bad_is}
 use Rattle.reading.specs.Values.{nat_in}
 use Rattle.walk.specs.Words.{slot_in}
@@ -31,7 +34,11 @@ use Rattle.walk.specs.References.{first_in, undefined_in, named_by, word_check, 
 use Rattle.walk.proofs.WordLaws.{slot_family}
 use Rattle.walk.proofs.NumberLaws.{own_number, named-number, its_kind}
 
-module _ (t : List ℕ) (r : ℕ) (l : List ℕ) (n : ℕ) (p : n ≡ nat_in 11 4 l) (i : ℕ) (q : i ≡ slot_in *80* n) (w : ℕ) (e : w ≡ get_or t i 0) (z : ℕ) (u : z ≡ w) where
+module _ (t : List ℕ) (r : ℕ) (l : List ℕ) (n : ℕ) (p : n ≡ nat_in 11 4 l) (i : ℕ) (at : i ≡ slot_in (kind_index K.Point) n) (w : ℕ) (e : w ≡ get_or t i 0) (z : ℕ) (u : z ≡ w) where
+  q : i ≡ slot_in *80* n
+  unfolding kind_index
+  q = at
+
   pub first_good : z ≡ r → Ok tt ≡ judged_of (first_in t r l)
   unfolding first_in check judged_of
   first_good h = rw (← p, ← q, ← e, ← u, of≡ h)
@@ -45,7 +52,11 @@ unfolding undefined_in ◌=?◌
 undefined_is t k n i e w z = rw (z, e)
 
 -- the station at column 11, which a *25*, a *91* and a *92* name first
-module _ (t l : List ℕ) (n : ℕ) (p : n ≡ nat_in 11 4 l) (a : Bool) (e : a ≡ undefined_in t *80* n) where
+module _ (t l : List ℕ) (n : ℕ) (p : n ≡ nat_in 11 4 l) (a : Bool) (told : a ≡ undefined_in t (kind_index K.Point) n) where
+  e : a ≡ undefined_in t *80* n
+  unfolding kind_index
+  e = told
+
   pub occupied_station : a ≡ true → {x : Flaw} → x ≡ flaw 12 11 → Err x ≡ judged_of (named_in t *25* l)
   unfolding named_in named_by run check judged_of ◌⨾◌ ◌=?◌
   occupied_station h y = rw (y, ← p, ← e, h)
@@ -63,7 +74,11 @@ module _ (t l : List ℕ) (n : ℕ) (p : n ≡ nat_in 11 4 l) (a : Bool) (e : a 
     unfolding named_in named_by run check judged_of ◌⨾◌ ◌=?◌
     network-good = rw (← p, ← e, h)
 
-    module _ (n' : ℕ) (p' : n' ≡ nat_in 17 4 l) (a' : Bool) (e' : a' ≡ undefined_in t *80* n') where
+    module _ (n' : ℕ) (p' : n' ≡ nat_in 17 4 l) (a' : Bool) (told' : a' ≡ undefined_in t (kind_index K.Point) n') where
+      e' : a' ≡ undefined_in t *80* n'
+      unfolding kind_index
+      e' = told'
+
       pub forepoint_bad : a' ≡ true → {x : Flaw} → x ≡ flaw 12 17 → Err x ≡ judged_of (named_in t *92* l)
       unfolding named_in named_by run check judged_of ◌⨾◌ ◌=?◌
       forepoint_bad h' y = rw (y, ← p, ← e, h, ← p', ← e', h')
@@ -72,19 +87,27 @@ module _ (t l : List ℕ) (n : ℕ) (p : n ≡ nat_in 11 4 l) (a : Bool) (e : a 
       unfolding named_in named_by run check judged_of ◌⨾◌ ◌=?◌
       local-good h' = rw (← p, ← e, h, ← p', ← e', h')
 
-    module _ (n' : ℕ) (p' : n' ≡ nat_in 28 3 l) (a' : Bool) (e' : a' ≡ undefined_in t *70* n') where
+    module _ (n' : ℕ) (p' : n' ≡ nat_in 28 3 l) (a' : Bool) (told' : a' ≡ undefined_in t (kind_index K.Instrument) n') where
+      e70 : a' ≡ undefined_in t *70* n'
+      unfolding kind_index
+      e70 = told'
+
       pub occupied_instrument : a' ≡ true → {x : Flaw} → x ≡ flaw 12 28 → Err x ≡ judged_of (named_in t *25* l)
       unfolding named_in named_by run check judged_of ◌⨾◌ ◌=?◌
-      occupied_instrument h' y = rw (y, ← p, ← e, h, ← p', ← e', h')
+      occupied_instrument h' y = rw (y, ← p, ← e, h, ← p', ← e70, h')
 
-      module _ (h' : a' ≡ false) (m : ℕ) (pm : m ≡ nat_in 33 3 l) (b : Bool) (em : b ≡ undefined_in t *72* m) where
+      module _ (h' : a' ≡ false) (m : ℕ) (pm : m ≡ nat_in 33 3 l) (b : Bool) (toldm : b ≡ undefined_in t (kind_index K.Antenna) m) where
+        em : b ≡ undefined_in t *72* m
+        unfolding kind_index
+        em = toldm
+
         pub occupied_antenna : b ≡ true → {x : Flaw} → x ≡ flaw 12 33 → Err x ≡ judged_of (named_in t *25* l)
         unfolding named_in named_by run check judged_of ◌⨾◌ ◌=?◌
-        occupied_antenna z y = rw (y, ← p, ← e, h, ← p', ← e', h', ← pm, ← em, z)
+        occupied_antenna z y = rw (y, ← p, ← e, h, ← p', ← e70, h', ← pm, ← em, z)
 
         pub occupied_good : b ≡ false → Ok tt ≡ judged_of (named_in t *25* l)
         unfolding named_in named_by run check judged_of ◌⨾◌ ◌=?◌
-        occupied_good z = rw (← p, ← e, h, ← p', ← e', h', ← pm, ← em, z)
+        occupied_good z = rw (← p, ← e, h, ← p', ← e70, h', ← pm, ← em, z)
 
 module _ (t : List ℕ) (r k : ℕ) (l : List ℕ) where
   pub refs_80 : k ≡ *80* → {v : Result (Unit {0}) Flaw} → v ≡ judged_of (first_in t r l) → v ≡ judged_of (ref_in t r k l)
@@ -107,6 +130,11 @@ module _ (t : List ℕ) (r k : ℕ) (l : List ℕ) where
   pub refs_none : (k ≡ *25* → ⊥) → (k ≡ *80* → ⊥) → (k ≡ *91* → ⊥) → (k ≡ *92* → ⊥) → Ok tt ≡ judged_of (ref_in t r k l)
   unfolding ref_in named_in named_by run judged_of
   refs_none a b c d = rw (of≢ a, of≢ b, of≢ c, of≢ d)
+
+-- by the kind
+pub refs_others : (t : List ℕ) (r : ℕ) (l : List ℕ) (k : Kind) → (k ≡ K.Occupation → ⊥) → (k ≡ K.Point → ⊥) → (k ≡ K.Network → ⊥) → (k ≡ K.Local → ⊥) → Ok tt ≡ judged_of (ref_in t r (kind_index k) l)
+unfolding kind_index
+refs_others t r l k a b c d = refs_none t r (kind_index k) l (other_index k K.Occupation a) (other_index k K.Point b) (other_index k K.Network c) (other_index k K.Local d)
 
 -- ---- the words tell what the rules ask of the whole file
 not-zero : (n : ℕ) → not (n =? 0) ≡ 1 ≤? n
@@ -199,6 +227,12 @@ module _ (f t : List ℕ) (given : Referable f t) (n i : ℕ) (g : Referring f n
     fine : (i + 1 ≤? 99_999 & formed_line chapter4 (line_at f i) ≡ true) × (formed_lines chapter4 (i + 1 + 1) (lines_from f (n - (i + 1)) (i + 1)) ≡ true)
     unfolding formed_lines
     fine = both (rw (lines_more f n i h) at g.form)
+
+    pub refer_known : (l : List ℕ) → l ≡ line_at f i → (o : Option Kind) → kind_in o ≡ kind_of (code_at l) → IsSome o
+    refer_known l el o e = is_some o _ e (known_code l (rw el (both fine.0).1))
+      where
+        known_code : (l : List ℕ) → formed_line chapter4 l ≡ true → kind_of (code_at l) < 14
+        known_code l h = let t : kind_of (code_at l) ≤ 13 = unfold formed_line known in to≤ (both (both (both h).0).0).1 in omega arith
 
     module _ (l : List ℕ) (el : l ≡ line_at f i) (k : ℕ) (ek : k ≡ kind_of (code_at l)) (j : Result (Unit {0}) Flaw) (ej : j ≡ judged_of (ref_in t (i + 1) k l)) where
       judged : j ≡ judged_of (run (ref_checks (meanings chapter4 f) (i + 1) (meaning chapter4 (line_at f i))))

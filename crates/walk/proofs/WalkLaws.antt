@@ -22,13 +22,17 @@ use Rattle.rules.proofs.FileLaws.{lines_more, lines_none}
 use Rattle.rules.proofs.TableLaws.{count_at, length-mark}
 use Rattle.rules.proofs.ReferenceLaws.{stations_in, instruments_in, antennas_in, length-tabulate}
 use Rattle.kinds.specs.declared.Fault.{Fault}
+use Rattle.kinds.specs.declared.Kind.{Kind}
+use Rattle.kinds.specs.Values.{judged_of, kind_index, kind_in}
+use Rattle.kinds.proofs.KindLaws.{index_small}
 use Rattle.walk.specs.declared.kept.Kept.{Kept}
-use Rattle.std.specs.Prelude.{Result, Ok, Err}
+use Rattle.std.specs.Prelude.{Result, Ok, Err, Option, None}
 use Rattle.kinds.specs.declared.Flaw.{Flaw}
 use Rattle.walk.specs.Keeping.{job_of, past_of, at_first, latest_in, moved_of}
 use Rattle.walk.specs.Words.{lead_in, slot_in}
-use Rattle.walk.specs.Walking.{answer_of, judge_at, stepped, step_of, Walked}
+use Rattle.walk.specs.Walking.{answer_of, judge_at, stepped, step_of, Walked, unknown_at}
 use Rattle.walk.proofs.KeptLaws.{spelled}
+use Rattle.walk.proofs.StepLaws.{step_unknown}
 use Rattle.walk.proofs.NumberLaws.{lead_of_25, lead_of, its_kind, its_slot}
 
 -- ---- what is kept after a good record is what the rules keep
@@ -102,9 +106,6 @@ module _ (rows : List (List ℕ)) (last : ℕ) (s : Kept) (r : ℕ) (l : List �
 
     pub step_few : r ≤ 99_999
     step_few = to≤ fine.0
-
-    pub step_known : kind_of (code_at l) < 14
-    step_known = let h : kind_of (code_at l) ≤ 13 = of_a_kind rows last s l fine.1 in omega arith
 
     step_past : past_of u ≡ after rows (past_of s) (meaning (ordered rows last) l)
     unfolding step_of
@@ -207,9 +208,9 @@ module _ (rows : List (List ℕ)) (last : ℕ) (f : List ℕ) (n : ℕ) (t₀ t 
           filling = λ y. absurd (refused-not m (i + 1) c _ z y);
         }
 
-    module _ (u : Kept) (q : a ≡ Ok u) (k : ℕ) (ek : k ≡ kind_of (code_at l)) where
-      pub go_known : k < 14
-      go_known = rw ek (step_known rows last s (i + 1) l a ea u q)
+    module _ (u : Kept) (q : a ≡ Ok u) (kind : Kind) (ek : kind_index kind ≡ kind_of (code_at l)) where
+      abbrev k : ℕ
+      k = kind_index kind
 
       pub go_few : i + 1 ≤ 99_999
       go_few = step_few rows last s (i + 1) l a ea u q
@@ -221,9 +222,9 @@ module _ (rows : List (List ℕ)) (last : ℕ) (f : List ℕ) (n : ℕ) (t₀ t 
           is_ok_lem ok y = refl
           is_ok_lem (fault m c) y = absurd (false≢true (unfold is_ok in y))
 
-      pub go_next : (v : List ℕ) → v ≡ mark (i + 1) (slot_in k (lead_in k l)) t → Going E f n t₀ v u (set cs k (get_or cs k 0 + 1)) (i + 1)
-      go_next v ev =
-          let small : k < length cs = rw g.kinds go_known in
+      going : (v : List ℕ) → v ≡ mark (i + 1) (slot_in k (lead_in k l)) t → Going E f n t₀ v u (set cs k (get_or cs k 0 + 1)) (i + 1)
+      going v ev =
+          let small : k < length cs = rw g.kinds (index_small kind) in
           record {
             count = g.count;
             few = go_few;
@@ -245,6 +246,16 @@ module _ (rows : List (List ℕ)) (last : ℕ) (f : List ℕ) (n : ℕ) (t₀ t 
 
           fills : filled (i + 1 + 1) (map (meaning E) (lines_from f (n - (i + 1)) (i + 1))) (mark (i + 1) (slot_of (meaning E (line_at f i))) t) ≡ filled 1 (meanings E f) t₀
           fills = unfold filled in (rw (lines_more f n i h) at g.filling)
+
+      pub go_next : (v : List ℕ) → v ≡ mark (i + 1) (slot_in k (lead_in k l)) t → (j : ℕ) → j ≡ k → Going E f n t₀ v u (set cs j (get_or cs j 0 + 1)) (i + 1)
+      go_next v ev j ej = rw ej (going v ev)
+
+  -- a record of no kind
+  pub go_unknown : i < n → (l : List ℕ) → l ≡ line_at f i → (o : Option Kind) → kind_in o ≡ kind_of (code_at l) → o ≡ None → (w : Flaw) → Err w ≡ judged_of (unknown_at (i + 1) l)
+      → {g : Fault} → g ≡ record { number = w.number; «record» = i + 1; column = w.column } → Walked E f (Err g) t₀ t
+  go_unknown h l el o e z w p {g} y =
+      let q : ◌≡◌ {A = Result (List ℕ) Fault} (Err g) (Err record { number = w.number; «record» = i + 1; column = w.column }) = rw y in
+      go_fault h l el (Err w) (step_unknown rows s (i + 1) l o e z w p) w refl q
 
   -- the end of the file
   module _ (h : n ≤ i) where

@@ -15,6 +15,10 @@ use Rattle.rules.specs.References.{Family, stations, families, of_first, mark}
 use Rattle.rules.proofs.Truth.{all_members, to≡, of≡, of≢}
 use Rattle.rules.proofs.ReferenceLaws.{first_is, stations_in, same_kind}
 use Rattle.columns.specs.Types.{nat_of}
+use Rattle.kinds.specs.declared.Kind.{Kind}
+use Rattle.kinds.specs.declared.Kind.TheVariants as K
+use Rattle.kinds.specs.Values.{kind_index}
+use Rattle.kinds.proofs.KindLaws.{other_index}
 use Rattle.reading.specs.Values.{nat_in}
 use Rattle.walk.specs.Words.{no_words, lead_width, lead_in, slot_in}
 use Rattle.walk.proofs.OrderLaws.{get_d_past}
@@ -51,6 +55,15 @@ pub slot_none : (k n : ℕ) → (k ≡ *70* → ⊥) → (k ≡ *72* → ⊥) �
 unfolding slot_in of_first
 slot_none k n a b c = rw (of≢ a, of≢ b, of≢ c)
 
+-- by the kind
+pub lead_others : (k : Kind) (l : List ℕ) → (k ≡ K.Occupation → ⊥) → (k ≡ K.Instrument → ⊥) → (k ≡ K.Antenna → ⊥) → (k ≡ K.Point → ⊥) → 0 ≡ lead_in (kind_index k) l
+unfolding kind_index
+lead_others k l a b c d = lead_none (kind_index k) l (other_index k K.Occupation a) (other_index k K.Instrument b) (other_index k K.Antenna c) (other_index k K.Point d)
+
+pub slot_others : (k : Kind) (n : ℕ) → (k ≡ K.Instrument → ⊥) → (k ≡ K.Antenna → ⊥) → (k ≡ K.Point → ⊥) → 12_000 ≡ slot_in (kind_index k) n
+unfolding kind_index
+slot_others k n a b c = slot_none (kind_index k) n (other_index k K.Instrument a) (other_index k K.Antenna b) (other_index k K.Point c)
+
 -- the first to come keeps the word
 module _ (r i : ℕ) (t : List ℕ) where
   pub mark-free : get_or t i 0 ≡ 0 → set t i r ≡ mark r i t
@@ -81,15 +94,8 @@ pub mark_record : (r k : ℕ) (l t : List ℕ) → (n : ℕ) → n ≡ lead_in k
 mark_record r k l t n e i q z = z ∙ rw (q, e)
 
 -- a kind that defines nothing
-module _ (r k n : ℕ) (t : List ℕ) (h : length t ≤ 12_000) where
-  none_marked : (k ≡ *70* → ⊥) → (k ≡ *72* → ⊥) → (k ≡ *80* → ⊥) → t ≡ mark r (slot_in k n) t
-  none_marked a b c = rw (← slot_none k n a b c) (mark_beyond r 12_000 t h)
-
-  pub marked_below : k < 7 → t ≡ mark r (slot_in k n) t
-  marked_below l = none_marked (λ e. omega arith) (λ e. omega arith) (λ e. omega arith)
-
-  pub marked_above : 9 < k → t ≡ mark r (slot_in k n) t
-  marked_above l = none_marked (λ e. omega arith) (λ e. omega arith) (λ e. omega arith)
+pub none_marked : (r : ℕ) (k : Kind) (n : ℕ) (t : List ℕ) → length t ≤ 12_000 → (k ≡ K.Instrument → ⊥) → (k ≡ K.Antenna → ⊥) → (k ≡ K.Point → ⊥) → t ≡ mark r (slot_in (kind_index k) n) t
+none_marked r k n t h a b c = rw (← slot_others k n a b c) (mark_beyond r 12_000 t h)
 
 pub word_past : (t : List ℕ) (i : ℕ) → length t ≤ i → 0 ≡ get_or t i 0
 word_past t i h = sym (get_d_past t 0 i h)

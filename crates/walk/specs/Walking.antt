@@ -2,7 +2,7 @@
 use Rattle.std.specs.Prelude.{◌≡◌, true, cond, List, ℕ, length, get_or, Result, Ok, Err}
 use Rattle.rules.specs.Tests.{◌≤?◌}
 use Rattle.rules.specs.Fields.{Verdict, ok, fault, check, ◌⨾◌}
-use Rattle.rules.specs.Records.{Edition, Meaning, code_at, judge_line}
+use Rattle.rules.specs.Records.{Edition, Meaning, code_at, judge_line, bytes}
 use Rattle.rules.specs.Kinds.{kind_of}
 use Rattle.rules.specs.Order.{last_job, goto}
 use Rattle.rules.specs.Files as files
@@ -23,6 +23,10 @@ answer_of (refuse n r c) ms = Err record { number = n; «record» = r; column = 
 -- 01, "Order": 2, then the line's own, by any rows; where a file ends makes no difference to a line
 unfoldable pub judge_at : (rows : List (List ℕ)) → Kept → ℕ → List ℕ → Verdict
 judge_at rows s r l = check (r ≤? 99_999) 2 1 ⨾ judge_line (ordered rows last_job) (past_of s) l
+
+-- the same of a record whose code is of no kind
+unfoldable pub unknown_at : ℕ → List ℕ → Verdict
+unknown_at r l = check (r ≤? 99_999) 2 1 ⨾ bytes 80 1 l ⨾ fault 6 7
 
 -- where record r of a file stands in it: its own fault, or what is kept after it
 unfoldable pub stepped : Verdict → Kept → Result Kept Flaw

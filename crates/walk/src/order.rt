@@ -1,8 +1,10 @@
 // What may follow what: the next place, by place and kind.
 ghost use Rattle.std.specs.Prelude.{◌≡◌, true};
 ghost use Rattle.rules.specs.Order.{goto};
+ghost use Rattle.kinds.specs.Values.{kind_index};
 ghost use Rattle.walk.specs.Keeping.{tabular};
 
+use kinds::Kind;
 use kinds::tables::wide;
 
 // A row for each place, in the order of the paper's table; in it the place that each of the fourteen kinds makes, 0 where it may not come.
@@ -30,15 +32,12 @@ pub(crate) const ORDER: [[u8; 14]; 17] = [
 pub(crate) const LAST_JOB: usize = 16;
 
 // In any table of rows: the place that a kind makes.
-pub(crate) fn look_up(rows: &[[u8; 14]; 17], place: usize, kind: usize) -> usize
+pub(crate) fn look_up(rows: &[[u8; 14]; 17], place: usize, kind: Kind) -> usize
     requires { tabular rows.now ≡ true }
-    ensures { result ≡ goto rows.now place kind }
+    ensures { result ≡ goto rows.now place (kind_index kind) }
 {
     if 17 <= place {
         return 0;
     }
-    if 14 <= kind {
-        return 0;
-    }
-    wide(rows[place][kind])
+    wide(rows[place][kind.index()])
 }

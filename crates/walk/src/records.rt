@@ -1,13 +1,13 @@
 // One record after another: faults 2 to 10, the counts and the table.
-ghost use Rattle.std.specs.Prelude.{◌≡◌, true, ◌≤◌, length};
+ghost use Rattle.std.specs.Prelude.{◌≡◌, true, ◌≤◌, length, Err};
 ghost use Rattle.rules.specs.Records.{code_at};
 ghost use Rattle.rules.specs.Kinds.{kind_of};
 ghost use Rattle.rules.specs.Order.{goto};
 ghost use Rattle.rules.specs.Chapter4.{ordered};
-ghost use Rattle.kinds.specs.Values.{judged_of};
+ghost use Rattle.kinds.specs.Values.{judged_of, kind_index};
 ghost use Rattle.quick.specs.Rows.{class_table};
 ghost use Rattle.walk.specs.Keeping.{tabular};
-ghost use Rattle.walk.specs.Walking.{judge_at, step_of, Walked};
+ghost use Rattle.walk.specs.Walking.{unknown_at, judge_at, step_of, Walked};
 
 use crate::kept::{Kept, expect, is_foreign, moved};
 use crate::order::look_up;
@@ -15,9 +15,22 @@ use crate::words::{leading, mark_record};
 use columns::parts::byte_at;
 use judging::codes::kind_at;
 use judging::lines::{judge_bytes, judge_rest};
-use kinds::{Fault, Flaw};
+use kinds::{Fault, Flaw, Kind};
 use quick::fits;
 use reading::lines::{count_begun, line};
+
+// Record r where its code is of no kind: that is the fault of a line with good bytes.
+fn judge_unknown(r: usize, line: &[u8]) -> Flaw
+    ensures { Err result ≡ judged_of (unknown_at r line.now) }
+{
+    if 99_999 < r {
+        return Flaw::new(2, 1);
+    }
+    match judge_bytes(line) {
+        Err(flaw) => flaw,
+        Ok(()) => Flaw::new(6, 7),
+    }
+}
 
 // Record r, judged test by test.
 fn judge_placed(
@@ -25,18 +38,15 @@ fn judge_placed(
     s: Kept,
     r: usize,
     line: &[u8],
-    kind: usize,
+    kind: Kind,
 ) -> Result<(), Flaw>
-    requires { (kind ≡ kind_of (code_at line.now)) × (tabular rows.now ≡ true) }
+    requires { (kind_index kind ≡ kind_of (code_at line.now)) × (tabular rows.now ≡ true) }
     ensures { result ≡ judged_of (judge_at rows.now s r line.now) }
 {
     if 99_999 < r {
         return Err(Flaw::new(2, 1));
     }
     judge_bytes(line)?;
-    if 13 < kind {
-        return Err(Flaw::new(6, 7));
-    }
     if look_up(rows, s.place, kind) == 0 {
         return Err(Flaw::new(7, 7));
     }
@@ -53,13 +63,13 @@ fn judge_quickly(
     next: usize,
     r: usize,
     line: &[u8],
-    kind: usize,
+    kind: Kind,
     classes: &[[[u8; 80]; 5]; 14],
 ) -> Result<(), Flaw>
-    requires { (kind ≡ kind_of (code_at line.now)) × (tabular rows.now ≡ true) × (next ≡ goto rows.now s.place kind) × (classes.now ≡ class_table) }
+    requires { (kind_index kind ≡ kind_of (code_at line.now)) × (tabular rows.now ≡ true) × (next ≡ goto rows.now s.place (kind_index kind)) × (classes.now ≡ class_table) }
     ensures { result ≡ judged_of (judge_at rows.now s r line.now) }
 {
-    if (next != 0) & (r <= 99_999) & fits(line, kind, expect(s, kind), classes) {
+    if (next != 0) & (r <= 99_999) & fits(line, Some(kind), expect(s, kind), classes) {
         return Ok(());
     }
     judge_placed(rows, s, r, line, kind)
@@ -70,10 +80,10 @@ fn step(
     s: Kept,
     r: usize,
     line: &[u8],
-    kind: usize,
+    kind: Kind,
     classes: &[[[u8; 80]; 5]; 14],
 ) -> Result<Kept, Flaw>
-    requires { (kind ≡ kind_of (code_at line.now)) × (tabular rows.now ≡ true) × (classes.now ≡ class_table) }
+    requires { (kind_index kind ≡ kind_of (code_at line.now)) × (tabular rows.now ≡ true) × (classes.now ≡ class_table) }
     ensures { result ≡ step_of rows.now s r line.now }
 {
     let next = look_up(rows, s.place, kind);
@@ -113,10 +123,12 @@ pub(crate) fn walk_records(
     let mut counts = [0u32; 14];
     for i in 0..n {
         let l = line(file, i);
-        let kind = kind_at(l);
         let r = i + 1;
+        let Some(kind) = kind_at(l) else {
+            return Err(judge_unknown(r, l).in_record(r));
+        };
         s = step(rows, s, r, l, kind, classes).map_err(|flaw| flaw.in_record(r))?;
-        counts[kind] = counts[kind] + 1;
+        counts[kind.index()] += 1;
         mark_record(words, l, kind, r as u32);
     }
     if s.place != last {

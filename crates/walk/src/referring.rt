@@ -3,12 +3,12 @@ ghost use Rattle.std.specs.Prelude.{◌≡◌};
 ghost use Rattle.rules.specs.Kinds.{*25*, *91*, *92*};
 ghost use Rattle.rules.specs.Files.{reference_verdict};
 ghost use Rattle.rules.specs.Chapter4.{chapter4};
-ghost use Rattle.kinds.specs.Values.{judged_of, fault_of};
+ghost use Rattle.kinds.specs.Values.{judged_of, fault_of, kind_index};
 ghost use Rattle.walk.specs.References.{first_in, undefined_in, named_in, ref_in, Referable};
 
 use crate::words::{slot, word_at};
 use judging::codes::kind_at;
-use kinds::{Fault, Flaw, Local, Network, Occupation, Point};
+use kinds::{Fault, Flaw, Kind, Local, Network, Occupation, Point};
 use reading::lines::{count_begun, line};
 use reading::values::number_in;
 
@@ -23,7 +23,7 @@ fn judge_first(words: &[u32], r: usize, line: &[u8]) -> Result<(), Flaw>
     ensures { result ≡ judged_of (first_in words.now r line.now) }
 {
     let station = number_in(line, Point::STATION, Point::STATION_WIDTH);
-    let first = word_at(words, slot(9, station));
+    let first = word_at(words, slot(Kind::Point, station));
     if size(first) == r {
         return Ok(());
     }
@@ -31,8 +31,8 @@ fn judge_first(words: &[u32], r: usize, line: &[u8]) -> Result<(), Flaw>
 }
 
 // Whether no record of a kind defines a number.
-fn is_undefined(words: &[u32], kind: usize, number: u32) -> bool
-    ensures { result ≡ undefined_in words.now kind number }
+fn is_undefined(words: &[u32], kind: Kind, number: u32) -> bool
+    ensures { result ≡ undefined_in words.now (kind_index kind) number }
 {
     word_at(words, slot(kind, number)) == 0
 }
@@ -42,15 +42,15 @@ fn judge_occupation(words: &[u32], line: &[u8]) -> Result<(), Flaw>
     ensures { result ≡ judged_of (named_in words.now *25* line.now) }
 {
     let station = number_in(line, Occupation::STATION, Occupation::STATION_WIDTH);
-    if is_undefined(words, 9, station) {
+    if is_undefined(words, Kind::Point, station) {
         return Err(Flaw::new(12, Occupation::STATION));
     }
     let instrument = number_in(line, Occupation::INSTRUMENT, Occupation::INSTRUMENT_WIDTH);
-    if is_undefined(words, 7, instrument) {
+    if is_undefined(words, Kind::Instrument, instrument) {
         return Err(Flaw::new(12, Occupation::INSTRUMENT));
     }
     let antenna = number_in(line, Occupation::ANTENNA, Occupation::ANTENNA_WIDTH);
-    if is_undefined(words, 8, antenna) {
+    if is_undefined(words, Kind::Antenna, antenna) {
         return Err(Flaw::new(12, Occupation::ANTENNA));
     }
     Ok(())
@@ -61,7 +61,7 @@ fn judge_network(words: &[u32], line: &[u8]) -> Result<(), Flaw>
     ensures { result ≡ judged_of (named_in words.now *91* line.now) }
 {
     let station = number_in(line, Network::STATION, Network::STATION_WIDTH);
-    if is_undefined(words, 9, station) {
+    if is_undefined(words, Kind::Point, station) {
         return Err(Flaw::new(12, Network::STATION));
     }
     Ok(())
@@ -72,24 +72,24 @@ fn judge_local(words: &[u32], line: &[u8]) -> Result<(), Flaw>
     ensures { result ≡ judged_of (named_in words.now *92* line.now) }
 {
     let standpoint = number_in(line, Local::STANDPOINT, Local::STANDPOINT_WIDTH);
-    if is_undefined(words, 9, standpoint) {
+    if is_undefined(words, Kind::Point, standpoint) {
         return Err(Flaw::new(12, Local::STANDPOINT));
     }
     let forepoint = number_in(line, Local::FOREPOINT, Local::FOREPOINT_WIDTH);
-    if is_undefined(words, 9, forepoint) {
+    if is_undefined(words, Kind::Point, forepoint) {
         return Err(Flaw::new(12, Local::FOREPOINT));
     }
     Ok(())
 }
 
-fn judge_references(words: &[u32], r: usize, line: &[u8], kind: usize) -> Result<(), Flaw>
-    ensures { result ≡ judged_of (ref_in words.now r kind line.now) }
+fn judge_references(words: &[u32], r: usize, line: &[u8], kind: Kind) -> Result<(), Flaw>
+    ensures { result ≡ judged_of (ref_in words.now r (kind_index kind) line.now) }
 {
     match kind {
-        4 => judge_occupation(words, line),
-        9 => judge_first(words, r, line),
-        11 => judge_network(words, line),
-        12 => judge_local(words, line),
+        Kind::Occupation => judge_occupation(words, line),
+        Kind::Point => judge_first(words, r, line),
+        Kind::Network => judge_network(words, line),
+        Kind::Local => judge_local(words, line),
         _ => Ok(()),
     }
 }
@@ -102,8 +102,9 @@ pub(crate) fn refer_records(file: &[u8], words: &[u32]) -> Result<(), Fault>
     let n = count_begun(file);
     for i in 0..n {
         let l = line(file, i);
-        let kind = kind_at(l);
         let r = i + 1;
+        // The walk accepted the file, so that each line has a code.
+        let kind = kind_at(l).unwrap();
         judge_references(words, r, l, kind).map_err(|flaw| flaw.in_record(r))?;
     }
     Ok(())

@@ -3,4 +3,4 @@ use Rattle.listing.proofs.LineLaws.{Listed}
 use Rattle.listing.proofs.lines.list_kinds.Given as goal
 
 abbrev pub invariant-loop-kind : goal.invariant-loop-kind
-invariant-loop-kind l = Listed l.from l.count-items l.initial.out l.at l.kind l.out
+invariant-loop-kind l = Listed l.from l.counts l.initial.out l.at l.kind-index l.out

@@ -1,12 +1,5 @@
-use borrow.Author.Rules.{rules}
-use Rattle.walk.proofs.KeptLaws.{foreign_data, foreign-first, foreign_last}
+use Rattle.walk.proofs.KeptLaws.{foreign_kind}
 use Rattle.walk.proofs.kept.is_foreign.Goals as goal
 
-pub returns-then-kind-ne0 : goal.returns-then-kind-ne0
-returns-then-kind-ne0 c = search (foreign_data, rules)
-
-pub returns-then-s-eq0 : goal.returns-then-s-eq0
-returns-then-s-eq0 c = search (foreign-first, rules)
-
 pub returns : goal.returns
-returns c = search (foreign_last, rules)
+returns c = let a = c.args in foreign_kind a.s a.kind a.first a.second c.eq.result c.eq.ensures

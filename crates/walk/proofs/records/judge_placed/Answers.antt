@@ -1,4 +1,4 @@
-use Rattle.walk.proofs.StepLaws.{placed_late, placed_bytes, placed_long, placed_code, placed_order, placed_foreign, placed_rest}
+use Rattle.walk.proofs.StepLaws.{placed_late, placed_bytes, placed_long, placed_order, placed_foreign, placed_rest}
 use borrow.Author.Rules.{rules}
 use mathlib.Core.Path.{◌∙◌}
 use Rattle.kinds.proofs.ValueLaws.{handed_on}
@@ -13,9 +13,6 @@ returns-in_err-judge_bytes c =
     let b = c.judge_bytes in
     handed_on c.from_residual.ensures.1 ∙ placed_bytes a.rows.now a.s a.r a.line.now c.if-r-gt99999.false b.result b.ensures _ c.in_err-judge_bytes.was
 
-pub returns-then-kind-gt13 : goal.returns-then-kind-gt13
-returns-then-kind-gt13 c = search (placed_code, rules)
-
 pub returns-then-look_up-eq0 : goal.returns-then-look_up-eq0
 returns-then-look_up-eq0 c = search (placed_order, rules)
 
@@ -23,7 +20,10 @@ pub returns-then-is_foreign : goal.returns-then-is_foreign
 returns-then-is_foreign c = search (placed_foreign, rules)
 
 pub judge_rest-requires : goal.judge_rest-requires
-judge_rest-requires c = (search (placed_long, rules), search rules)
+judge_rest-requires c = search (placed_long, rules)
 
 pub returns : goal.returns
-returns c = search (placed_rest, rules)
+returns c =
+    let a = c.args in
+    let b = c.judge_bytes in
+    search (placed_rest a.rows.now a.s a.r a.line.now a.kind c.requires.0 c.if-r-gt99999.false b.result b.ensures c.in_ok-judge_bytes.was c.look_up.result c.look_up.ensures c.if-look_up-eq0.false, rules)

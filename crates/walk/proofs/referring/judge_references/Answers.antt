@@ -1,18 +1,24 @@
+use Rattle.kinds.specs.Values.{kind_index}
+use Rattle.walk.proofs.ReferLaws.{refs_80, refs_25, refs_91, refs_92, refs_others}
 use borrow.Author.Rules.{rules}
-use Rattle.walk.proofs.ReferLaws.{refs_80, refs_25, refs_91, refs_92, refs_none}
+use mathlib.Core.Path.{ap}
 use Rattle.walk.proofs.referring.judge_references.Goals as goal
 
-pub returns-in-4 : goal.returns-in-4
-returns-in-4 c = search (refs_25, rules)
+pub returns-in-Occupation : goal.returns-in-Occupation
+unfolding kind_index
+returns-in-Occupation c = let a = c.args in refs_25 a.words.now a.r (kind_index a.kind) a.line.now (ap kind_index c.in-Occupation.is) c.judge_occupation.ensures
 
-pub returns-in-9 : goal.returns-in-9
-returns-in-9 c = search (refs_80, rules)
+pub returns-in-Point : goal.returns-in-Point
+unfolding kind_index
+returns-in-Point c = let a = c.args in refs_80 a.words.now a.r (kind_index a.kind) a.line.now (ap kind_index c.in-Point.is) c.judge_first.ensures
 
-pub returns-in-11 : goal.returns-in-11
-returns-in-11 c = search (refs_91, rules)
+pub returns-in-Network : goal.returns-in-Network
+unfolding kind_index
+returns-in-Network c = let a = c.args in refs_91 a.words.now a.r (kind_index a.kind) a.line.now (ap kind_index c.in-Network.is) c.judge_network.ensures
 
-pub returns-in-12 : goal.returns-in-12
-returns-in-12 c = search (refs_92, rules)
+pub returns-in-Local : goal.returns-in-Local
+unfolding kind_index
+returns-in-Local c = let a = c.args in refs_92 a.words.now a.r (kind_index a.kind) a.line.now (ap kind_index c.in-Local.is) c.judge_local.ensures
 
 pub returns-in_default : goal.returns-in_default
-returns-in_default c = search (refs_none, rules)
+returns-in_default c = search (refs_others, rules)

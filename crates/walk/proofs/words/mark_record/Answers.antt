@@ -1,12 +1,9 @@
-use Rattle.walk.proofs.WordLaws.{mark_record, marked_below, marked_above}
+use Rattle.walk.proofs.WordLaws.{mark_record, none_marked}
 use borrow.Author.Rules.{rules}
 use Rattle.walk.proofs.words.mark_record.Goals as goal
 
-pub returns-then-kind-lt7 : goal.returns-then-kind-lt7
-returns-then-kind-lt7 c = search (marked_below, rules)
+pub returns-in-Instrument : goal.returns-in-Instrument
+returns-in-Instrument c = search (mark_record, rules)
 
-pub returns-then-kind-gt9 : goal.returns-then-kind-gt9
-returns-then-kind-gt9 c = search (marked_above, rules)
-
-pub returns : goal.returns
-returns c = search (mark_record, rules)
+pub returns-in_default : goal.returns-in_default
+returns-in_default c = search (none_marked, rules)
