@@ -105,7 +105,7 @@ pub(crate) fn try_inputs(rt: &(impl Files + Print + Eprint)) -> io::Result<()> {
 fn pad_file(rt: &(impl Files + Eprint), path: &[u8], out: &mut [u8; 65536]) -> io::Result<()> {
     let mut space = [0u8; 65536];
     let n = read_file(rt, path, &mut space)?;
-    padding::pad(&space[..n], out);
+    let _ = padding::pad(&space[..n], out);
     Ok(())
 }
 

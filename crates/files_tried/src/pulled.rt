@@ -3,8 +3,8 @@ use crate::dress::rewrite_file;
 use crate::lent::{BYTE, WORD, show_changed_bytes};
 use crate::padded::{show_differing, show_lines};
 use crate::print::{show_answer, show_numbers};
-use kinds::Fault;
 use inputs::read_file;
+use kinds::Fault;
 use reading::lines::count_begun;
 use std::io;
 use std::rt::Files;
@@ -17,7 +17,12 @@ const PLACES: usize = 65;
 const ROOM: usize = 5265;
 
 // Of a refused call nothing is to be seen but what was lent.
-fn show_pulled(rt: &impl Print, answer: Result<(), Fault>, entries: usize, out: &[u8]) -> io::Result<()> {
+fn show_pulled(
+    rt: &impl Print,
+    answer: Result<(), Fault>,
+    entries: usize,
+    out: &[u8],
+) -> io::Result<()> {
     if answer.is_ok() && entries <= MOST {
         show_lines(rt, &out[..out.len().min(81 * entries)])?;
     }
@@ -150,7 +155,7 @@ fn pull_list(file: &[u8], out: &mut [u8; 65536]) {
     let list = number_all();
     if let Some(records) = list.get(..count_begun(file)) {
         let mut faults = [WORD; MOST];
-        pulling::pull(file, records, out, &mut faults);
+        let _ = pulling::pull(file, records, out, &mut faults);
     }
 }
 

@@ -41,7 +41,12 @@ fn show_written(rt: &impl Print, n: usize, out: &[u8]) -> io::Result<()> {
 }
 
 // A refusal leaves all of the output as it was.
-fn show_output(rt: &impl Print, answer: Result<[u32; 14], Fault>, n: usize, out: &[u8]) -> io::Result<()> {
+fn show_output(
+    rt: &impl Print,
+    answer: Result<[u32; 14], Fault>,
+    n: usize,
+    out: &[u8],
+) -> io::Result<()> {
     if answer.is_ok() {
         show_written(rt, n, out)
     } else {
