@@ -1,5 +1,5 @@
 -- What write is given: words taken for a sequence number and a record, in the order in which read answers them.
-use Rattle.std.specs.Prelude.{◌≡◌, Bool, false, cond, List, [], ◌∷◌, ℕ, suc, ◌+◌, get_or, ℤ, pos, negsuc, Result}
+use Rattle.std.specs.Prelude.{Bool, false, cond, List, [], ◌∷◌, ℕ, suc, ◌+◌, get_or, ℤ, pos, negsuc, Result}
 use Rattle.rules.specs.Tests.{◌≤?◌, ◌=?◌}
 use Rattle.columns.specs.declared.Height.{Height}
 use Rattle.columns.specs.declared.Four.{Four}
