@@ -806,7 +806,7 @@ impl Record {
     }
 }
 
-// A refusal: 01's number, record and column.
+// A refusal: 01's number, record and column. Kept a number and no enum: 01 numbers the faults, and the words for C hold them.
 #[derive(Clone, Copy, PartialEq, Eq, Debug)]
 pub struct Fault {
     pub number: u32,

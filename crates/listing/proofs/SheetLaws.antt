@@ -14,7 +14,7 @@ use Rattle.rules.specs.Records.{Meaning}
 use Rattle.rules.specs.Files as files
 use Rattle.rules.specs.Files.{accept, refuse, meanings}
 use Rattle.rules.specs.Chapter4.{chapter4}
-use Rattle.rules.proofs.Truth.{of≤, of>, of≡, of≢}
+use Rattle.rules.proofs.Truth.{of≤, of>, of≢}
 use Rattle.kinds.specs.declared.Fault.{Fault}
 use Rattle.kinds.specs.Values.{checked_of}
 use Rattle.walk.specs.Walking.{answer_of}
@@ -22,7 +22,6 @@ use Rattle.walk.proofs.JudgeLaws.{answer_told, outcome_from_1}
 use Rattle.listing.specs.Laying.{laid, Laid}
 use Rattle.listing.specs.Listing.{listed_in, big_enough, list_answer, list_table, list_output}
 use Rattle.listing.proofs.LayLaws.{laid_on}
-use Rattle.listing.proofs.LineLaws.{same_text}
 
 -- ---- with and without the lines of the kinds
 module _ (blocks : ℕ) {v : Result (List ℕ) Fault} (o : List ℕ) (e : ℕ) (mid : List ℕ) where

@@ -7,13 +7,13 @@ use Prim.Native.Nat.{ℕ, ◌*◌, ◌≤◌, ◌<◌}
 use native.Mathlib.Omega.{arith}
 use lib.ListN.{length, take, drop}
 use lib.Seq.{take_at, drop_at}
-use Rattle.std.specs.Prelude.{Result, Ok, Err, is_ok, is_err, IsOk, IsErr}
+use Rattle.std.specs.Prelude.{Result, Ok, Err, is_err, IsOk}
 use Rattle.rules.specs.Tests.{◌≤?◌, ◌=?◌}
 use Rattle.rules.specs.Members.{◌∈◌}
 use Rattle.rules.specs.Files as files
 use Rattle.rules.specs.Files.{accept, refuse, is_accept, and_then, line_at, lines, join, accepted}
 use Rattle.rules.specs.Chapter4.{chapter4}
-use Rattle.rules.specs.Padding.{lines_of, texts, padded, judge_texts, pad_verdict, PadFaults, PadPrecedes, PadFirst, PadAnswer, pad_answer_by, pad_answer, pad_output}
+use Rattle.rules.specs.Padding.{lines_of, texts, padded, judge_texts, pad_verdict, PadFaults, PadPrecedes, PadFirst, pad_answer_by, pad_answer, pad_output}
 use Rattle.rules.proofs.Truth.{of≤, to≤, no≤, of≢, cases, either}
 use Rattle.rules.proofs.FileLaws.{is_accept_lem, line_within}
 use Rattle.rules.proofs.PaddingLaws.{pad_first, pad_unique, pad_none, short_texts, padded_long, padded_line_lem, accepted_pads}

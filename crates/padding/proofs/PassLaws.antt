@@ -1,12 +1,12 @@
 -- From one line to the next, and the judge that goes so: the verdict on what is left from here is the verdict on all.
-use mathlib.Core.Path.{◌≡◌, refl, sym, ◌∙◌, ap, ap₂}
+use mathlib.Core.Path.{◌≡◌, refl, sym, ◌∙◌, ap}
 use mathlib.Core.List.{List, [], ◌∷◌}
 use Prim.Native.Nat.{ℕ, ◌+◌, ◌-◌, ◌≤◌, ◌<◌}
 use native.Mathlib.Nat.{le_trans}
 use native.Mathlib.Omega.{arith}
 use lib.ListN.{length, length-take, length-drop, take, drop, drop_of_length-le}
 use lib.Seq.{drop-drop, length-take-le}
-use Rattle.std.specs.Prelude.{Result, Ok, Err}
+use Rattle.std.specs.Prelude.{Ok, Err}
 use Rattle.rules.specs.Tests.{◌=?◌}
 use Rattle.rules.specs.Fields.{check, ◌⨾◌}
 use Rattle.rules.specs.Files.{accept, refuse, in_record}

@@ -6,7 +6,7 @@ use Prim.Native.Nat.{ℕ, ◌+◌, ◌*◌, ◌≤◌, ◌<◌}
 use native.Mathlib.Omega.{arith}
 use lib.ListN.{length, take, get_or, replicate}
 use lib.Seq.{get_or-take}
-use Rattle.std.specs.Prelude.{Result, Ok, Err, is_ok, IsOk, IsErrAnd}
+use Rattle.std.specs.Prelude.{Result, Ok, IsOk, IsErrAnd}
 use Rattle.rules.specs.Tests.{◌=?◌}
 use Rattle.rules.specs.Characters.{ascii}
 use Rattle.rules.specs.Files.{join}

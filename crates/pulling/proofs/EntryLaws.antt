@@ -8,7 +8,7 @@ use lib.ListN.{length, take, drop, get_or, set, replicate, drop_of_length-le}
 use lib.Seq.{length-take-le, drop-cons}
 use Rattle.std.specs.Prelude.{Result, Ok, Err}
 use Rattle.rules.specs.Tests.{all, ◌&◌, ◌≤?◌, within}
-use Rattle.rules.specs.Fields.{anything, Verdict, ok, fault, is_ok}
+use Rattle.rules.specs.Fields.{anything, ok, is_ok}
 use Rattle.rules.specs.Layouts.{layout}
 use Rattle.rules.specs.Records.{code_at, entries, numbered, read_line, meaning, style, formed_line}
 use Rattle.rules.specs.Kinds.{kind_of, known}
@@ -20,7 +20,6 @@ use Rattle.rules.proofs.Truth.{both, and, of≡, of≤, to_within}
 use Rattle.rules.proofs.FieldLaws.{is_ok_⨾, is_ok_check}
 use Rattle.rules.proofs.RecordLaws.{read_line_splits, line_long}
 use Rattle.rules.proofs.FileLaws.{is_line, lines_join, length-take_most}
-use Rattle.rules.proofs.Bounds.{read-refused}
 use Rattle.kinds.specs.declared.Expect.{Expect}
 use Rattle.kinds.specs.declared.Flaw.{Flaw}
 use Rattle.kinds.specs.Values.{judged_of, expect_of}

@@ -7,10 +7,9 @@ use Prim.Native.Nat.{ℕ, ◌*◌, ◌≤◌, ◌<◌}
 use native.Mathlib.Omega.{arith}
 use lib.ListN.{length, length-append, length-drop, length-map, take, drop, get_or, get_or-append}
 use lib.Seq.{take_at, drop_at}
-use Rattle.std.specs.Prelude.{Result, Ok, Err, is_ok, is_err, IsOk, IsErr}
+use Rattle.std.specs.Prelude.{Result, Ok, Err, is_err, IsOk}
 use Rattle.rules.specs.Tests.{◌≤?◌}
-use Rattle.rules.specs.Members.{◌∈◌}
-use Rattle.rules.specs.Files.{accept, refuse, line_at, join}
+use Rattle.rules.specs.Files.{line_at, join}
 use Rattle.rules.specs.Calls as calls
 use Rattle.rules.specs.Calls.{values, unread, read_of}
 use Rattle.rules.specs.Pulling.{line_for, fault_for, pulled_line, pulled_fault, pulled_lines, pulled_faults, pull_room, pull_answer, pull_output, pull_faults}

@@ -41,7 +41,8 @@ fn lay_blanks(out: &mut [u8])
     out[80] = 10;
 }
 
-// The line of record `number` in house style, or a blank one where it cannot be read.
+// The line of record `number` in house style, or a blank one where it cannot be read. Kept a number, 0 for a good record: it is the word
+// of the fault list, which C reads.
 fn pull_line(line: &[u8], number: u32, classes: &[[[u8; 80]; 5]; 14], out: &mut [u8]) -> u32
     requires { (length line.now ≤ 81) × (1 ≤ number) × (number ≤ 99_999) × (classes.now ≡ class_table) × (length out.old ≡ 81) }
     ensures { Entry number (read_as number line.now (read_line chapter4 line.now)) result out.new }

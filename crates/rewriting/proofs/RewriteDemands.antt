@@ -4,10 +4,9 @@ use mathlib.Core.Logic.{◌↔◌}
 use mathlib.Core.Bool.{Bool, true, false, false≢true}
 use mathlib.Core.List.{List, [], ◌++◌, map}
 use Prim.Native.Nat.{ℕ, ◌≤◌, ◌<◌}
-use native.Mathlib.Omega.{arith}
 use lib.ListN.{length, take, drop, get_or}
 use lib.Seq.{take_at, drop_at}
-use Rattle.std.specs.Prelude.{Result, Ok, Err, is_ok, is_err, IsOk, IsErr}
+use Rattle.std.specs.Prelude.{Result, Ok, Err, is_ok, IsOk, IsErr}
 use Rattle.rules.specs.Tests.{◌≤?◌, ◌=?◌}
 use Rattle.rules.specs.Items.{value_of}
 use Rattle.rules.specs.Records.{sequence, code_at}
@@ -27,7 +26,6 @@ use Rattle.rules.proofs.Demands.{demand_2, demand_3}
 use Rattle.kinds.specs.declared.Fault.{Fault}
 use Rattle.kinds.specs.Values.{checked_of}
 use Rattle.kinds.proofs.ValueLaws.{not_ok}
-use Rattle.walk.specs.Walking.{answer_of}
 use Rattle.walk.proofs.JudgeLaws.{answer_ok, answer_told, outcome_from_1}
 use Rattle.walk.specs.Promise as walk
 use Rattle.walk.proofs.TogetherDemands.{refused_1, names, named_is, taken, demand_1_together, demand_2_together}

@@ -1,20 +1,18 @@
 -- The call: room, what form and references answer together, and what then stands in the output.
 use mathlib.Core.Path.{◌≡◌, refl, sym, ◌∙◌, ap}
-use mathlib.Core.Bool.{Bool, true, false, cond, false≢true}
+use mathlib.Core.Bool.{Bool, true, false, false≢true}
 use mathlib.Core.List.{List, ◌++◌}
 use Prim.Native.Nat.{ℕ, ◌≤◌, ◌<◌}
 use lib.ListN.{length, drop}
-use Rattle.std.specs.Prelude.{Result, Ok, Err, is_ok, IsOk, IsErr}
+use Rattle.std.specs.Prelude.{Result, Err, is_ok, IsOk}
 use Rattle.rules.specs.Tests.{◌&◌, ◌=?◌}
-use Rattle.rules.specs.Files.{accept, refuse, is_accept, lines, join, meanings, verdict, accepted, styles, house_style, rewritten, formed_lines}
+use Rattle.rules.specs.Files.{is_accept, lines, join, meanings, verdict, accepted, styles, house_style, rewritten, formed_lines}
 use Rattle.rules.specs.Calls.{outcome, big_table, big_output, answer, table_left, output_left, file_answer, references_table, rewrite_room, rewrite_answer, rewrite_table, rewrite_output}
 use Rattle.rules.specs.Chapter4.{chapter4}
 use Rattle.rules.proofs.Truth.{of≤, of>, cases, and_true}
 use Rattle.rules.proofs.FileLaws.{accepted-parts}
-use Rattle.rules.proofs.Bounds.{zero_accepts}
 use Rattle.kinds.specs.declared.Fault.{Fault}
 use Rattle.kinds.specs.Values.{checked_of}
-use Rattle.walk.specs.Walking.{answer_of}
 use Rattle.walk.proofs.JudgeLaws.{answer_ok, answer_told, outcome_from_1}
 
 -- ---- an output shorter than the file

@@ -8,7 +8,7 @@ use native.Mathlib.Omega.{arith}
 use lib.ListN.{length, take, drop, replicate, length-replicate}
 use lib.Seq.{take_at, drop_at}
 use Rattle.std.specs.Prelude.{Result, Ok, Err, is_ok, IsOk, IsErrAnd}
-use Rattle.rules.specs.Tests.{◌&◌, ◌≤?◌, ◌=?◌}
+use Rattle.rules.specs.Tests.{◌&◌, ◌≤?◌}
 use Rattle.rules.specs.Members.{◌∈◌}
 use Rattle.rules.specs.Files as files
 use Rattle.rules.specs.Files.{accept, refuse, is_accept, meanings, form_verdict, reference_verdict, verdict, accepted}
@@ -17,7 +17,7 @@ use Rattle.rules.specs.References.{words, counts, sum}
 use Rattle.rules.specs.Faults.{FirstOf, FormFault, ReferencesFaults}
 use Rattle.rules.specs.Calls.{big_table, answer, table_left, form_answer, references_outcome, references_answer, references_table, file_answer}
 use Rattle.rules.specs.Chapter4.{chapter4}
-use Rattle.rules.proofs.Truth.{both, and, of≤, to≤, no≤, of≢, is_no, cases, either}
+use Rattle.rules.proofs.Truth.{both, and, of≤, to≤, no≤, is_no, cases, either}
 use Rattle.rules.proofs.FileLaws.{is_accept_lem, then_accept}
 use Rattle.rules.proofs.FileFaults.{one_first}
 use Rattle.rules.proofs.ReferenceLaws.{length-words}

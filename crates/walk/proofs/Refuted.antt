@@ -6,7 +6,7 @@ use Prim.Native.String.{String}
 use native.Mathlib.Omega.{arith}
 use lib.ListN.{length, take, get_or, replicate, length-replicate}
 use lib.Seq.{get_or-take}
-use Rattle.std.specs.Prelude.{Result, Ok, Err, is_ok, IsOk, IsErrAnd}
+use Rattle.std.specs.Prelude.{Result, Ok, Err, IsOk, IsErrAnd}
 use Rattle.rules.specs.Files.{accept, is_accept, meanings, accepted}
 use Rattle.rules.specs.Tests.{◌=?◌}
 use Rattle.rules.specs.Kinds.{*70*, *86*}
@@ -18,7 +18,7 @@ use Rattle.rules.proofs.ReferenceLaws.{instruments_in}
 use Rattle.rules.proofs.Samples.{bytes_of, judged, full, full_accepted, counted, full_counts, malformed_later, strangers, form_of, forms, references_of, references, definers_of, twofold, twofold_accepted, twofold_definers}
 use Rattle.kinds.specs.declared.Fault.{Fault}
 use Rattle.kinds.specs.Values.{checked_of, fault_of}
-use Rattle.kinds.proofs.ValueLaws.{not_ok, ok_is, same_fault, same_ok}
+use Rattle.kinds.proofs.ValueLaws.{not_ok}
 use Rattle.walk.specs.Promise.{FormPromised, ReferencesPromised}
 use Rattle.walk.proofs.CallDemands.{demand_1_references, demand_2_form, demand_2_references, accepted-zero}
 

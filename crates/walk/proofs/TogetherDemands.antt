@@ -6,7 +6,7 @@ use Prim.Native.Nat.{ℕ, ◌≤◌, ◌<◌}
 use native.Mathlib.Omega.{arith}
 use lib.ListN.{length, take, drop, replicate, length-replicate}
 use lib.Seq.{take_at, drop_at}
-use Rattle.std.specs.Prelude.{Result, Ok, Err, is_ok, IsOk}
+use Rattle.std.specs.Prelude.{Result, Ok, Err, IsOk}
 use Rattle.rules.specs.Tests.{◌≤?◌, ◌=?◌}
 use Rattle.rules.specs.Files as files
 use Rattle.rules.specs.Files.{accept, refuse, is_accept, meanings, verdict, accepted}
@@ -14,7 +14,7 @@ use Rattle.rules.specs.References.{words, counts}
 use Rattle.rules.specs.Faults.{FirstOf, CallFaults}
 use Rattle.rules.specs.Calls.{outcome, big_table, answer, table_left, file_answer, references_table}
 use Rattle.rules.specs.Chapter4.{chapter4}
-use Rattle.rules.proofs.Truth.{of≤, to≤, of>, no≤, of≢, cases}
+use Rattle.rules.proofs.Truth.{of≤, to≤, of>, no≤, cases}
 use Rattle.rules.proofs.ReferenceLaws.{length-words}
 use Rattle.rules.proofs.Bounds.{file_numbers}
 use Rattle.rules.proofs.Conforming.{accepted_conforms}

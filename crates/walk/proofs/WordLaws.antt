@@ -1,12 +1,11 @@
 -- The lent table: one law for each way through the functions.
 use mathlib.Core.Path.{◌≡◌, refl, sym, ◌∙◌, ap}
 use mathlib.Core.Bool.{Bool, true, false, cond}
-use mathlib.Core.List.{List, ◌++◌, append-nil}
+use mathlib.Core.List.{List}
 use Prim.Native.Nat.{ℕ, ◌+◌, ◌≤◌, ◌<◌}
 use native.Mathlib.Omega.{arith}
-use lib.ListN.{length, drop, get_or, set, replicate, length-replicate, drop_of_length-le}
+use lib.ListN.{length, get_or, set, length-replicate}
 use lib.Seq.{set_out}
-use borrow.Author.Fill.{fill_more}
 use Rattle.rules.specs.Tests.{all, ◌&◌, ◌=?◌}
 use Rattle.rules.specs.Items.{value_of}
 use Rattle.rules.specs.Kinds.{*25*, *70*, *72*, *80*}

@@ -1,6 +1,5 @@
 use mathlib.Core.Path.{refl}
 use native.Mathlib.Omega.{arith}
-use borrow.Author.Rules.{rules}
 use Rattle.kinds.proofs.ValueLaws.{handed_on}
 use Rattle.padding.specs.Lines.{mask_bytes}
 use Rattle.padding.proofs.PadLaws.{faulty, good-lines, count, narrow, before, laid}

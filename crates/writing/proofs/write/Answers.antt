@@ -1,6 +1,6 @@
 -- Room, then the judge, then the line.
 use borrow.Author.Rules.{rules}
-use mathlib.Core.Path.{◌≡◌, ◌∙◌, ap}
+use mathlib.Core.Path.{◌∙◌, ap}
 use lib.Seq.{length-take-le}
 use Rattle.std.specs.Prelude.{Err}
 use Rattle.kinds.proofs.ValueLaws.{handed_on, mapped_ok, mapped_err}
