@@ -6,7 +6,8 @@ use Prim.Native.String.{String}
 use native.Mathlib.Omega.{arith}
 use lib.ListN.{length, take, get_or, replicate, length-replicate}
 use lib.Seq.{get_or-take}
-use Rattle.std.specs.Prelude.{Result, Ok, Err, IsOk, IsErrAnd}
+use Rattle.std.specs.Prelude.{Option, Some, Result, Ok, Err, IsOk, IsOkAnd, IsErrAnd}
+use Rattle.std.specs.Result.{result_err}
 use Rattle.rules.specs.Files.{accept, is_accept, meanings, accepted}
 use Rattle.rules.specs.Tests.{◌=?◌}
 use Rattle.rules.specs.Kinds.{*70*, *86*}
@@ -48,17 +49,26 @@ module _ (answer : List ℕ → Result (List ℕ) Fault) (keeps : (f : List ℕ)
   pub not_refusing_everything : ((f : List ℕ) → IsOk (answer f) → ⊥) → ⊥
   not_refusing_everything wrong = wrong (bytes_of full) full_ok
 
-  pub not_one_verdict : (x : Result (List ℕ) Fault) → ((f : List ℕ) → answer f ≡ x) → ⊥
+  -- the verdict alone: the fault, or none
+  pub not_one_verdict : (x : Option Fault) → ((f : List ℕ) → result_err (answer f) ≡ x) → ⊥
   not_one_verdict x wrong = by (answer []) refl empty_8
     where
       by : (y : Result (List ℕ) Fault) → answer [] ≡ y → IsErrAnd y (λ g. g.number ≡ 8) → ⊥
       by (Ok cs) e z = z
-      by (Err g) e z = not_ok (wrong (bytes_of full) ∙ sym (wrong []) ∙ e) full_ok
+      by (Err g) e z = other (answer (bytes_of full)) full_ok (wrong (bytes_of full) ∙ sym (wrong []) ∙ ap result_err e)
+        where
+          other : (r : Result (List ℕ) Fault) → IsOk r → result_err r ≡ Some g → ⊥
+          other (Ok cs) h q = cc
+          other (Err k) h q = cc
 
   -- both *86* records of the sample have a blank comment
-  pub not_passing_over_86 : (cs : List ℕ) → answer (bytes_of full) ≡ Ok cs → get_or cs *86* 0 ≡ 2
+  pub not_passing_over_86 : IsOkAnd (answer (bytes_of full)) (λ cs. get_or cs *86* 0 ≡ 2)
   unfolding counted
-  not_passing_over_86 cs e = ap (λ cs. get_or cs *86* 0) ((demand_2_form (bytes_of full) _ (keeps (bytes_of full))).counted cs e ∙ full_counts)
+  not_passing_over_86 = by (answer (bytes_of full)) refl full_ok
+    where
+      by : (y : Result (List ℕ) Fault) → answer (bytes_of full) ≡ y → IsOk y → IsOkAnd y (λ cs. get_or cs *86* 0 ≡ 2)
+      by (Ok cs) e z = unfold counted in ap (λ cs. get_or cs *86* 0) ((demand_2_form (bytes_of full) _ (keeps (bytes_of full))).counted cs e ∙ full_counts)
+      by (Err g) e z = cc
 
   -- 02, T-05: a form that looks at references would turn the undefined station away
   pub not_looking_at_references : IsOk (answer (bytes_of strangers))
