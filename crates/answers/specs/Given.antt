@@ -1,5 +1,5 @@
 -- What write is given: words taken for a sequence number and a record, in the order in which read answers them.
-use Rattle.std.specs.Prelude.{◌≡◌, Bool, false, cond, List, [], ◌∷◌, ℕ, suc, ◌+◌, get_or, ℤ, pos, negsuc, Result, Ok, Err, Option, Some, None}
+use Rattle.std.specs.Prelude.{Bool, false, cond, List, [], ◌∷◌, ℕ, suc, ◌+◌, get_or, ℤ, pos, negsuc, Result, Option, Some, None}
 use Rattle.rules.specs.Tests.{◌≤?◌, ◌=?◌}
 use Rattle.columns.specs.declared.Four.{Four}
 use Rattle.columns.specs.declared.Media.{Media}
@@ -15,7 +15,7 @@ use Rattle.kinds.specs.declared.Local.{Local}
 use Rattle.kinds.specs.declared.Record.{Record}
 use Rattle.kinds.specs.declared.Record.TheVariants as R
 use Rattle.kinds.specs.declared.Fault.{Fault}
-use Rattle.answers.specs.Answers.{fault_words, fault_in, Small}
+use Rattle.answers.specs.Answers.{fault_words, fault_in}
 use Rattle.columns.specs.declared.Height.{Height}
 
 -- ---- one word: what its field's type cannot hold is taken for a value that no field holds, so that it is refused at its own column

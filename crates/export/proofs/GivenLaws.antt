@@ -1,10 +1,10 @@
 -- Words taken for values: what its field's type cannot hold is taken for a value that no field holds.
 use mathlib.Core.Path.{◌≡◌, refl, sym, ◌∙◌, ap}
-use mathlib.Core.Bool.{true, false, Bool, cond}
-use mathlib.Core.List.{List, ◌++◌, [], ◌∷◌}
-use Prim.Native.Nat.{ℕ, suc, ◌+◌, ◌≤◌, ◌<◌, min, zero, ◌^◌}
+use mathlib.Core.Bool.{true, false}
+use mathlib.Core.List.{List, ◌++◌}
+use Prim.Native.Nat.{ℕ, suc, ◌+◌, ◌≤◌, ◌<◌, min}
 use native.Mathlib.Omega.{arith}
-use lib.ListN.{length, drop, get_or}
+use lib.ListN.{length, drop}
 use lib.IntN.{ℤ, pos, negsuc, nat_abs}
 use mir.Facts.{to_z-of_z}
 use mir.Syntax.{w32, w64}
@@ -17,8 +17,8 @@ use Rattle.std.specs.declared.option.Option.{Option}
 use Rattle.std.specs.declared.result.Result.{Result}
 use Rattle.std.proofs.Common.{Ok, Err, Bor}
 use Rattle.std.proofs.lemmas.List.{get_or_past}
-use Rattle.rules.specs.Tests.{◌≤?◌, ◌=?◌}
-use Rattle.rules.specs.Items.{Value, signed}
+use Rattle.rules.specs.Tests.{◌≤?◌}
+use Rattle.rules.specs.Items.{Value}
 use Rattle.rules.specs.Fields.{Verdict, ok, fault}
 use Rattle.rules.specs.Records.{Meaning}
 use Rattle.rules.specs.Calls.{write_verdict, write_output}
@@ -46,13 +46,11 @@ use Rattle.kinds.specs.declared.Fault.{Fault}
 use Rattle.kinds.specs.declared.Record.{Record}
 use Rattle.kinds.specs.declared.Record.TheVariants as R
 use Rattle.kinds.specs.Values.{kind_number, meaning_of, written_of, kind_index, kind_in}
-use Rattle.answers.specs.Answers.{Small, fault_words, fault_in, answered, touched}
+use Rattle.answers.specs.Answers.{Small, fault_in, answered, touched}
 use Rattle.answers.specs.Given.{word_at, held_or, digit_of, signed_of, is_least, height_of, sequence_of, character_at, number_at, two_at, three_at, four_at, media_at, project_given, occupation_given, measurement_given, point_given, heights_given, network_given, local_given, records_given, record_given, given, sequence_given, written_words, number_of, character_of}
 use Rattle.kinds.specs.declared.Kind.{Kind}
 use Rattle.kinds.proofs.KindLaws.{its_number, no_number}
 use Rattle.export.proofs.AnswerLaws.{long_answer, long_touched}
-use lib.Dec.{eqb}
-use Rattle.columns.proofs.Signed.{widened}
 use Rattle.std.specs.Prelude.{Result, Ok, Err, Option, Some, None}
 use Rattle.columns.specs.Types.{count_value}
 use Rattle.columns.specs.declared.Height.{Height}

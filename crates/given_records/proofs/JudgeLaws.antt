@@ -10,10 +10,8 @@ use Rattle.rules.specs.Characters.{is_blank}
 use Rattle.rules.specs.Items.{Test, word, text, on_text, passes, width, shape, value_of, fits, good}
 use Rattle.rules.specs.Fields.{Verdict, ok, fault, check, ◌⨾◌, same_truth, is_missing}
 use Rattle.rules.proofs.Truth.{of≡}
-use Rattle.columns.specs.Types.{height_value}
 use Rattle.rules.proofs.FieldLaws.{⨾_assoc}
 use Rattle.columns.proofs.Loops.{&_is}
-use Rattle.columns.specs.declared.Height.{Height}
 
 -- what follows a good test alone matters
 pub ⨾_same : (b : Bool) (n c : ℕ) (u v : Verdict) → (b ≡ true → u ≡ v) → (check b n c ⨾ u) ≡ (check b n c ⨾ v)

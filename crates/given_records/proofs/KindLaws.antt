@@ -29,7 +29,6 @@ use Rattle.kinds.specs.Values.{two_text, three_text, values_of}
 use Rattle.given_records.specs.Accuracies.{judge_accuracy}
 use Rattle.given_records.specs.Judging.{height_entries, judge_orthometric, judge_others}
 use Rattle.given_records.proofs.JudgeLaws.{chain, chain_append, chain_within, chain_two, firsts}
-use Rattle.std.specs.Prelude.{Option}
 use Rattle.columns.specs.declared.Height.{Height}
 
 -- a value of its kind and range

@@ -1,6 +1,6 @@
 -- A kind and its number: each of the fourteen has one below 14, and no other kind, nor none, has it.
 use mathlib.Core.Path.{◌≡◌, refl, sym, ap, ap₂, ◌∙◌}
-use mathlib.Core.List.{List, [], ◌∷◌}
+use mathlib.Core.List.{[], ◌∷◌}
 use Prim.Native.Nat.{ℕ, ◌≤◌, ◌<◌, min}
 use native.Mathlib.Nat.{min-le_left}
 use lib.Dec.{lit≤, eqb}
@@ -8,7 +8,7 @@ use denote.Enum.Declared.{tag_of}
 use denote.Enum.Bare.{sameb}
 use native.Mathlib.Omega.{arith}
 use lib.ListN.{get_or}
-use Rattle.std.specs.Prelude.{Option, Some, None, IsSome, Result, Ok, Err}
+use Rattle.std.specs.Prelude.{Option, Some, None, IsSome, Ok, Err}
 use Rattle.std.specs.Option.{ok_or}
 use Rattle.kinds.specs.contracts.Kind.{the_type}
 use Rattle.kinds.specs.declared.Kind.{Kind}

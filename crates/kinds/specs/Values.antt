@@ -1,5 +1,5 @@
 -- The code's types as 01's numbers and values: for each case of each enum the definition that the promises use.
-use Rattle.std.specs.Prelude.{cond, List, [], ◌∷◌, ℕ, get_or, pos, negsuc, Result, Ok, Err, Option, Some, None}
+use Rattle.std.specs.Prelude.{cond, List, [], ◌∷◌, ℕ, get_or, pos, Result, Ok, Err, Option, Some, None}
 use Rattle.rules.specs.Tests.{◌=?◌}
 use Rattle.rules.specs.Characters.{ascii}
 use Rattle.rules.specs.Items.{Value, gap, missing, num, text, label}

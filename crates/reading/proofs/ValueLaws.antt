@@ -35,7 +35,6 @@ use Rattle.kinds.specs.declared.Network.{Network}
 use Rattle.kinds.specs.declared.Local.{Local}
 use Rattle.kinds.specs.declared.Factor.{Factor}
 use Rattle.columns.specs.declared.Way.{Way}
-use Rattle.kinds.specs.declared.Record.{Record}
 use Rattle.kinds.specs.declared.Record.TheVariants as R
 use Rattle.kinds.specs.Values.{text_of, char_of, two, three, record_from}
 use Rattle.reading.specs.Values.{nat_in, month_in, height_in, signed_in, job_in, project_in, occupation_in, measurement_in, instrument_in, antenna_in, point_in, heights_in, network_in, local_in, factor_in, record_in}

@@ -1,5 +1,5 @@
 -- The typed values of a line, each from its own columns.
-use Rattle.std.specs.Prelude.{true, List, ℕ, ℤ, get_or, Option}
+use Rattle.std.specs.Prelude.{true, List, ℕ, ℤ, get_or}
 use Rattle.rules.specs.Items.{gap, number, height, angle, month, media, value_of}
 use Rattle.rules.specs.Fields.{values}
 use Rattle.rules.specs.Layouts.{layouts, kept}

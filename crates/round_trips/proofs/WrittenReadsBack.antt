@@ -6,7 +6,7 @@ use Prim.Native.Nat.{ℕ, ◌-◌, ◌<◌}
 use native.Mathlib.Omega.{arith}
 use lib.Seq.{take_all, get_or-take}
 use lib.ListN.{length, take, get_or}
-use Rattle.std.specs.Prelude.{Result, Ok, Err, Option}
+use Rattle.std.specs.Prelude.{Result, Ok, Option}
 use Rattle.rules.specs.Tests.{◌&◌, ◌≤?◌, within}
 use Rattle.rules.specs.Items.{gap, value_of}
 use Rattle.rules.specs.Fields.{Verdict, ok, fault, is_ok}

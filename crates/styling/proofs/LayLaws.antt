@@ -24,7 +24,7 @@ use Rattle.columns.specs.Types.{count_value, height_value}
 use Rattle.columns.specs.Leaves.{written, height_columns}
 use Rattle.columns.proofs.Loops.{suc_less_one}
 use Rattle.styling.specs.Laying.{roomy, lay, lay_fields}
-use Rattle.std.specs.Prelude.{Option, Some, None, ℤ}
+use Rattle.std.specs.Prelude.{Option, Some, None}
 use Rattle.columns.specs.declared.Height.{Height}
 
 -- ---- one field

@@ -1,5 +1,5 @@
 -- The order of records is looked up in any table of rows for which the code's array has room, and the rules' is such a table.
-use mathlib.Core.Path.{◌≡◌, refl, sym}
+use mathlib.Core.Path.{◌≡◌, refl}
 use mathlib.Core.Bool.{true}
 use mathlib.Core.List.{List, [], ◌∷◌}
 use Prim.Native.Nat.{ℕ, zero, suc, ◌≤◌}
@@ -7,7 +7,7 @@ use native.Mathlib.Omega.{arith}
 use lib.ListN.{length, get_or}
 use Rattle.rules.specs.Tests.{all, ◌&◌, ◌≤?◌}
 use Rattle.rules.specs.Order.{order, goto}
-use Rattle.rules.proofs.Truth.{both, to≤, of≤, all_get_d}
+use Rattle.rules.proofs.Truth.{both, to≤}
 use Rattle.walk.specs.Keeping.{tabular}
 
 -- no entry stands outside a table

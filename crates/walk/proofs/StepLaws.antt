@@ -9,7 +9,7 @@ use lib.ListN.{length, get_or, take}
 use borrow.Author.Tests.{leb-true}
 use Rattle.std.specs.Prelude.{Result, Ok, Err, Option, Some, None}
 use Rattle.rules.specs.Tests.{◌&◌, ◌≤?◌}
-use Rattle.rules.specs.Fields.{fault, check, ◌⨾◌, is_ok, read, judge}
+use Rattle.rules.specs.Fields.{check, ◌⨾◌, is_ok, read, judge}
 use Rattle.rules.specs.Items.{good, spot}
 use Rattle.rules.specs.Records.{sequence, bytes, code_at, entries, numbered, judge_line}
 use Rattle.rules.specs.Kinds.{kind_of, known}

@@ -1,6 +1,5 @@
 use Rattle.export.proofs.GivenLaws.{given_kind, given_no_kind}
 use borrow.Author.Rules.{rules}
-use Rattle.export.proofs.GivenLaws.{given_job, given-title, given_continuation, given-project, given-occupation, given-comment, given-measurement, given-instrument, given-antenna, given-point, given-heights, given-network, given-local, given-factor, given_none}
 use Rattle.export.proofs.given.give_record.Goals as goal
 
 pub returns-in-Some : goal.returns-in-Some

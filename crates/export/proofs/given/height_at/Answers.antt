@@ -4,7 +4,6 @@ use mir.Syntax.{w32}
 use Rattle.answers.specs.Given.{height_of, signed_of}
 use Rattle.export.proofs.GivenLaws.{height_none, height-some}
 use Rattle.export.proofs.given.height_at.Goals as goal
-use Rattle.std.specs.Prelude.{Some}
 use Rattle.columns.specs.declared.Height.{Height}
 
 pub returns-then-word_at : goal.returns-then-word_at

@@ -1,5 +1,5 @@
-use mathlib.Core.Bool.{Bool, true, false}
-use mathlib.Core.Path.{◌≡◌, refl, sym}
+use mathlib.Core.Bool.{false}
+use mathlib.Core.Path.{◌≡◌, refl}
 use Rattle.rules.specs.Fields.{is_missing}
 use Rattle.columns.specs.Types.{height_value}
 use Rattle.columns.specs.declared.Height.{Height}

@@ -1,5 +1,4 @@
 use borrow.Author.Rules.{rules}
-use mathlib.Core.Path.{sym, ◌∙◌}
 use Rattle.kinds.specs.Values.{kind_in, kind_index}
 use Rattle.judging.proofs.CodeLaws.{is_data, is_job, is_none}
 use Rattle.judging.proofs.codes.kind_between.Goals as goal

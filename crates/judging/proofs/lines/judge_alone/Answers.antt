@@ -1,5 +1,4 @@
 -- Bytes, code, fields, a law for each way out; good bytes make the line long enough.
-use borrow.Author.Rules.{rules}
 use native.Mathlib.Omega.{arith}
 use mathlib.Core.Path.{sym, ◌∙◌, ap}
 use Rattle.std.specs.Prelude.{Err}

@@ -1,5 +1,5 @@
 -- One arm for each kind.
-use mathlib.Core.Path.{◌≡◌, ◌∙◌, ap}
+use mathlib.Core.Path.{◌∙◌, ap}
 use Rattle.kinds.specs.declared.Record.TheVariants as R
 use Rattle.kinds.specs.Values.{kind_index}
 use Rattle.reading.proofs.ValueLaws.{job_is, title_is, continuation_is, project_is, occupation_is, comment_is, measurement_is, instrument_is, antenna_is, point_is, heights_is, network_is, local_is, factor_is}

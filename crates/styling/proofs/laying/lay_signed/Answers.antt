@@ -9,7 +9,6 @@ use mir.Syntax.{w64}
 use mir.ValLaws.{to_z-of_z}
 use Rattle.columns.specs.Leaves.{height_columns}
 use Rattle.styling.proofs.laying.lay_signed.Goals as goal
-use Rattle.std.specs.Prelude.{Some}
 use Rattle.columns.specs.declared.Height.{Height}
 
 pub overflow_sub-at : goal.overflow_sub-at

@@ -1,5 +1,5 @@
 use mathlib.Core.Path.{◌≡◌, ◌∙◌, ap}
-use Prim.Native.Nat.{◌+◌, ◌<◌}
+use Prim.Native.Nat.{◌+◌}
 use Rattle.std.specs.Prelude.{Err}
 use borrow.Author.Rules.{rules}
 use native.Mathlib.Omega.{arith}

@@ -9,7 +9,6 @@ use Rattle.columns.specs.Leaves.{height_columns}
 use Rattle.kinds.specs.Tables.{field_of}
 use Rattle.styling.specs.Laying.{lay, lay_fields}
 use Rattle.writing.proofs.lines.lay_accuracy.Goals as goal
-use Rattle.std.specs.Prelude.{Some}
 use Rattle.columns.specs.declared.Height.{Height}
 
 pub returns : goal.returns

@@ -1,7 +1,6 @@
 -- Option ℕ number, code, fields, line feed.
 use Rattle.writing.proofs.LineLaws.{given-formed, given-laid, sequence_count_lem}
 use Rattle.writing.proofs.lines.lay_line.Goals as goal
-use Rattle.std.specs.Prelude.{Option}
 use Rattle.columns.specs.Types.{count_value}
 
 pub lay_values-requires : goal.lay_values-requires
