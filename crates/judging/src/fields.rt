@@ -180,6 +180,7 @@ fn refused_at(line: &[u8], i: usize) -> usize
     refused_in(line, item_at(i), first, width)
 }
 
+// Kept beside its caller, and no `map_err` there: a closure would need this `requires` of what it captures.
 // The fault of row i, a 9 named at its character. It is asked for once, behind the loop's good path.
 fn point_at(line: &[u8], i: usize, flaw: Flaw) -> Flaw
     requires { (80 ≤ length line.now) × (i < 87) }

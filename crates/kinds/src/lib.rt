@@ -1,4 +1,5 @@
-// The types of records and of answers. The first column and the width of each field are constants of its record's type.
+// The types of records and of answers. The first column and the width of each field are constants of its record's type, and each has a
+// constructor. Kept as they are: 01, "Each place and its form", names both.
 #![tactic(auto)]
 
 use columns::{Four, Height, Media};
@@ -11,7 +12,8 @@ ghost use Rattle.rules.specs.Tests.{◌&◌};
 ghost use Rattle.rules.specs.Characters.{is_letter, letter, digit, ◌or◌, member};
 ghost use Rattle.kinds.specs.Values.{kind_index, kind_in, kind_number};
 
-// Two characters.
+// Two characters. Kept, with Three and columns' Four: ValueLaws.record-back is over all values of these types, and the list that an array is
+// in a proof does not say how long it is.
 #[derive(Clone, Copy)]
 pub struct Two(pub u8, pub u8);
 

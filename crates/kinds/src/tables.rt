@@ -426,13 +426,6 @@ const WIDTHS: [u8; 87] = [
 // Where the fields of each kind begin, and where the last kind's end.
 const STARTS: [u8; 15] = [0, 1, 2, 3, 13, 20, 21, 27, 34, 41, 48, 64, 73, 84, 87];
 
-// A number of the tables as an index.
-pub fn wide(b: u8) -> usize
-    ensures { result ≡ b }
-{
-    b as usize
-}
-
 pub fn item_at(i: usize) -> Item
     requires { i < 87 }
     ensures { result ≡ get_or items i Item.Blank }

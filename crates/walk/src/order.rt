@@ -5,7 +5,6 @@ ghost use Rattle.kinds.specs.Values.{kind_index};
 ghost use Rattle.walk.specs.Keeping.{tabular};
 
 use kinds::Kind;
-use kinds::tables::wide;
 
 // A row for each place, in the order of the paper's table; in it the place that each of the fourteen kinds makes, 0 where it may not come.
 pub(crate) const ORDER: [[u8; 14]; 17] = [
@@ -39,5 +38,5 @@ pub(crate) fn look_up(rows: &[[u8; 14]; 17], place: usize, kind: Kind) -> usize
     if 17 <= place {
         return 0;
     }
-    wide(rows[place][kind.index()])
+    usize::from(rows[place][kind.index()])
 }
