@@ -6,8 +6,8 @@ ghost use Rattle.padding.specs.Lines.{column_of, mask_bytes};
 use columns::parts::byte_at;
 
 // Three times 80 columns: such as keep a line's byte, such as keep nothing, and blanks. Of a line of n bytes the 80 from 80 - n on say what
-// is kept of its bytes, and the 80 behind them what stands where nothing is kept: lent from above, so that many columns are laid at once.
-pub(crate) const MASKS: [u8; 240] = *b"\
+// is kept of its bytes, and the 80 behind them what stands where nothing is kept: a static, read where it lies, so that many columns are laid at once.
+static MASKS: [u8; 240] = *b"\
     \xff\xff\xff\xff\xff\xff\xff\xff\xff\xff\xff\xff\xff\xff\xff\xff\xff\xff\xff\xff\
     \xff\xff\xff\xff\xff\xff\xff\xff\xff\xff\xff\xff\xff\xff\xff\xff\xff\xff\xff\xff\
     \xff\xff\xff\xff\xff\xff\xff\xff\xff\xff\xff\xff\xff\xff\xff\xff\xff\xff\xff\xff\
@@ -29,12 +29,12 @@ fn column_of(b: u8, kept: u8, blank: u8) -> u8
 }
 
 // The first n bytes in 80 columns, and an LF.
-fn lay_columns(part: &[u8], n: usize, masks: &[u8], out: &mut [u8])
-    requires { (n ≤ length part.now) × (n ≤ 80) × (masks.now ≡ mask_bytes) × (length out.old ≡ 81) }
+fn lay_columns(part: &[u8], n: usize, out: &mut [u8])
+    requires { (n ≤ length part.now) × (n ≤ 80) × (length out.old ≡ 81) }
     ensures { out.new ≡ padded_line (take n part.now) }
 {
     let from = 80 - n;
-    let own = &masks[from..from + 160];
+    let own = &MASKS[from..from + 160];
     for i in 0..80 {
         out[i] = column_of(byte_at(part, i), own[i], own[80 + i]);
     }
@@ -42,13 +42,13 @@ fn lay_columns(part: &[u8], n: usize, masks: &[u8], out: &mut [u8])
 }
 
 // Where 80 bytes are there to be looked at, the compiler lays many columns at once.
-pub(crate) fn lay_line(part: &[u8], n: usize, masks: &[u8], out: &mut [u8])
-    requires { (n ≤ length part.now) × (n ≤ 80) × (masks.now ≡ mask_bytes) × (length out.old ≡ 81) }
+pub(crate) fn lay_line(part: &[u8], n: usize, out: &mut [u8])
+    requires { (n ≤ length part.now) × (n ≤ 80) × (length out.old ≡ 81) }
     ensures { out.new ≡ padded_line (take n part.now) }
 {
     if part.len() < 80 {
-        lay_columns(part, n, masks, out);
+        lay_columns(part, n, out);
         return;
     }
-    lay_columns(&part[0..80], n, masks, out);
+    lay_columns(&part[0..80], n, out);
 }

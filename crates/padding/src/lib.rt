@@ -12,7 +12,6 @@ ghost use Rattle.padding.specs.Promise.{padded_of, Promised};
 ghost use Rattle.padding.specs.Walks.{Told};
 
 use crate::counting::count_halves;
-use crate::laying::MASKS;
 use crate::lines::{feed_at, text_length};
 use crate::stretches::lay_lines;
 use columns::parts::middle;
@@ -66,7 +65,6 @@ pub fn pad(input: &[u8], out: &mut [u8]) -> Result<u32, Fault>
         halves.start,
         halves.near as usize,
         lines as usize,
-        &MASKS,
         out,
     );
     Ok(lines)

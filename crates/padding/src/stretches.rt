@@ -26,8 +26,8 @@ struct Stretches {
 }
 
 // A line of the one stretch and a line of the other, until one of them has none left or comes near the end of the input.
-fn lay_in_turn(input: &[u8], near: Stretch, far: Stretch, masks: &[u8], out: &mut [u8]) -> Stretches
-    requires { (masks.now ≡ mask_bytes) × Ready input.now out.old near × Ready input.now out.old far × Apart near far }
+fn lay_in_turn(input: &[u8], near: Stretch, far: Stretch, out: &mut [u8]) -> Stretches
+    requires { Ready input.now out.old near × Ready input.now out.old far × Apart near far }
     ensures { Turned input.now out.old near far out.new result.here result.there }
 {
     let size = input.len();
@@ -48,7 +48,7 @@ fn lay_in_turn(input: &[u8], near: Stretch, far: Stretch, masks: &[u8], out: &mu
         let k = text_length(part, n);
         let a = here.to;
         let e = a + 81;
-        lay_line(part, k, masks, &mut out[a..e]);
+        lay_line(part, k, &mut out[a..e]);
         let rest = Stretch {
             from: from + (n + 1),
             to: e,
@@ -61,8 +61,8 @@ fn lay_in_turn(input: &[u8], near: Stretch, far: Stretch, masks: &[u8], out: &mu
 }
 
 // What is left of a stretch.
-fn lay_stretch(input: &[u8], stretch: Stretch, masks: &[u8], out: &mut [u8])
-    requires { (masks.now ≡ mask_bytes) × Ready input.now out.old stretch }
+fn lay_stretch(input: &[u8], stretch: Stretch, out: &mut [u8])
+    requires { Ready input.now out.old stretch }
     ensures { out.new ≡ laid input.now out.old stretch }
 {
     let mut from = stretch.from;
@@ -72,22 +72,15 @@ fn lay_stretch(input: &[u8], stretch: Stretch, masks: &[u8], out: &mut [u8])
         let n = feed_at(part);
         let k = text_length(part, n);
         let e = a + 81;
-        lay_line(part, k, masks, &mut out[a..e]);
+        lay_line(part, k, &mut out[a..e]);
         from += n + 1;
         a = e;
     }
 }
 
 // All lines: `near` of them, and those from a start of a line on that stand behind these.
-pub(crate) fn lay_lines(
-    input: &[u8],
-    start: usize,
-    near: usize,
-    lines: usize,
-    masks: &[u8],
-    out: &mut [u8],
-)
-    requires { (masks.now ≡ mask_bytes) × (judge_texts 1 (texts input.now) ≡ accept) × (lines ≡ length (texts input.now)) × (near ≤ lines) × (texts (drop start input.now) ≡ drop near (texts input.now)) × (81 * lines ≤ length out.old) }
+pub(crate) fn lay_lines(input: &[u8], start: usize, near: usize, lines: usize, out: &mut [u8])
+    requires { (judge_texts 1 (texts input.now) ≡ accept) × (lines ≡ length (texts input.now)) × (near ≤ lines) × (texts (drop start input.now) ≡ drop near (texts input.now)) × (81 * lines ≤ length out.old) }
     ensures { out.new ≡ padded input.now ++ drop (81 * lines) out.old }
 {
     let first = Stretch {
@@ -100,9 +93,9 @@ pub(crate) fn lay_lines(
         to: 81 * near,
         lines: lines - near,
     };
-    let left = lay_in_turn(input, first, second, masks, out);
+    let left = lay_in_turn(input, first, second, out);
     let here = left.here;
     let there = left.there;
-    lay_stretch(input, here, masks, out);
-    lay_stretch(input, there, masks, out);
+    lay_stretch(input, here, out);
+    lay_stretch(input, there, out);
 }

@@ -6,7 +6,6 @@ ghost use Rattle.rules.specs.Records.{read_line};
 ghost use Rattle.rules.specs.Chapter4.{chapter4};
 ghost use Rattle.rules.specs.Calls.{read_as, read_of};
 ghost use Rattle.rules.specs.Pulling.{blank_line};
-ghost use Rattle.quick.specs.Rows.{class_table};
 ghost use Rattle.pulling.specs.Promise.{Promised};
 ghost use Rattle.kinds.specs.Values.{judged_of};
 ghost use Rattle.pulling.specs.Entries.{Entry, Entries};
@@ -16,17 +15,15 @@ use judging::codes::kind_at;
 use judging::lines::judge_alone;
 use kinds::{Expect, Fault, Flaw};
 use quick::fits;
-use quick::tables::CLASSES;
 use reading::is_there;
 use reading::lines::line;
 use rewriting::style_lines;
 
 // The fault of a record by itself. Hardly a record has one, so each is first tested as a whole.
-fn fault_in(line: &[u8], classes: &[[[u8; 80]; 5]; 14]) -> Result<(), Flaw>
-    requires { classes.now ≡ class_table }
+fn fault_in(line: &[u8]) -> Result<(), Flaw>
     ensures { result ≡ judged_of (read_line chapter4 line.now) }
 {
-    if fits(line, kind_at(line), Expect::Anything, classes) {
+    if fits(line, kind_at(line), Expect::Anything) {
         return Ok(());
     }
     judge_alone(line)
@@ -43,11 +40,11 @@ fn lay_blanks(out: &mut [u8])
 
 // The line of record `number` in house style, or a blank one where it cannot be read. Kept a number, 0 for a good record: it is the word
 // of the fault list, which C reads.
-fn pull_line(line: &[u8], number: u32, classes: &[[[u8; 80]; 5]; 14], out: &mut [u8]) -> u32
-    requires { (length line.now ≤ 81) × (1 ≤ number) × (number ≤ 99_999) × (classes.now ≡ class_table) × (length out.old ≡ 81) }
+fn pull_line(line: &[u8], number: u32, out: &mut [u8]) -> u32
+    requires { (length line.now ≤ 81) × (1 ≤ number) × (number ≤ 99_999) × (length out.old ≡ 81) }
     ensures { Entry number (read_as number line.now (read_line chapter4 line.now)) result out.new }
 {
-    if let Err(flaw) = fault_in(line, classes) {
+    if let Err(flaw) = fault_in(line) {
         lay_blanks(out);
         return flaw.number;
     }
@@ -56,34 +53,28 @@ fn pull_line(line: &[u8], number: u32, classes: &[[[u8; 80]; 5]; 14], out: &mut 
 }
 
 // One entry: 13 where the file has no such record.
-fn pull_record(file: &[u8], record: u32, classes: &[[[u8; 80]; 5]; 14], out: &mut [u8]) -> u32
-    requires { (classes.now ≡ class_table) × (length out.old ≡ 81) }
+fn pull_record(file: &[u8], record: u32, out: &mut [u8]) -> u32
+    requires { (length out.old ≡ 81) }
     ensures { Entry «record» (read_of file.now «record») result out.new }
 {
     let r = record as usize;
     if is_there(file, r) {
-        return pull_line(line(file, r - 1), record, classes, out);
+        return pull_line(line(file, r - 1), record, out);
     }
     lay_blanks(out);
     13
 }
 
 // The entries in the list's order, each at its own place, whether it can be read or not.
-fn pull_entries(
-    file: &[u8],
-    records: &[u32],
-    classes: &[[[u8; 80]; 5]; 14],
-    out: &mut [u8],
-    faults: &mut [u32],
-)
-    requires { (classes.now ≡ class_table) × (81 * length records.now ≤ length out.old) × (length records.now ≤ length faults.old) }
+fn pull_entries(file: &[u8], records: &[u32], out: &mut [u8], faults: &mut [u32])
+    requires { (81 * length records.now ≤ length out.old) × (length records.now ≤ length faults.old) }
     ensures { Entries file.now records.now out.old faults.old out.new faults.new }
 {
     let n = records.len();
     for i in 0..n {
         let a = 81 * i;
         let e = a + 81;
-        faults[i] = pull_record(file, records[i], classes, &mut out[a..e]);
+        faults[i] = pull_record(file, records[i], &mut out[a..e]);
     }
 }
 
@@ -92,7 +83,7 @@ fn pull_list(file: &[u8], records: &[u32], out: &mut [u8], faults: &mut [u32])
     requires { (81 * length records.now ≤ length out.old) × (length records.now ≤ length faults.old) }
     ensures { Entries file.now records.now out.old faults.old out.new faults.new }
 {
-    pull_entries(file, records, &CLASSES, out, faults);
+    pull_entries(file, records, out, faults);
 }
 
 // Fault 1 goes by lengths alone, and then nothing is touched; what became of each entry stands in the fault list. 81 times the entries of a list could be more than a number holds, so the

@@ -8,7 +8,6 @@ pub mod values;
 
 ghost use Rattle.std.specs.Prelude.{◌≡◌, true};
 ghost use Rattle.kinds.specs.Values.{expect_of, kind_in};
-ghost use Rattle.quick.specs.Rows.{class_table};
 ghost use Rattle.quick.specs.Rest.{Fit};
 
 use crate::rows::fits_columns;
@@ -16,8 +15,7 @@ use crate::values::{has_sequence, has_values};
 use kinds::{Expect, Kind};
 
 // A job code is left to the judge, who compares it with the first one.
-pub fn fits(line: &[u8], kind: Option<Kind>, e: Expect, classes: &[[[u8; 80]; 5]; 14]) -> bool
-    requires { classes.now ≡ class_table }
+pub fn fits(line: &[u8], kind: Option<Kind>, e: Expect) -> bool
     ensures { result ≡ true → Fit line.now (kind_in kind) (expect_of e) }
 {
     if line.len() <= 80 {
@@ -29,8 +27,5 @@ pub fn fits(line: &[u8], kind: Option<Kind>, e: Expect, classes: &[[[u8; 80]; 5]
     if kind == Kind::Job {
         return false;
     }
-    fits_columns(line, kind, classes)
-        & has_sequence(line)
-        & (line[80] == 10)
-        & has_values(line, kind, e)
+    fits_columns(line, kind) & has_sequence(line) & (line[80] == 10) & has_values(line, kind, e)
 }

@@ -4,6 +4,7 @@ ghost use Rattle.std.specs.Prelude.{◌≡◌, true, ◌&&◌, [], ◌<◌, leb,
 ghost use Rattle.quick.specs.Rows.{class_table, col_at, five_at, Columns, five_texts, Texts, is_text};
 ghost use Rattle.kinds.specs.Values.{kind_index};
 
+use crate::tables::CLASSES;
 use kinds::Kind;
 
 fn column(line: &[u8], j: usize, row: &[[u8; 80]; 5]) -> bool
@@ -73,11 +74,11 @@ fn is_text_kind(kind: Kind) -> bool
 }
 
 // Every column of a line of a kind.
-pub(crate) fn fits_columns(line: &[u8], kind: Kind, classes: &[[[u8; 80]; 5]; 14]) -> bool
-    requires { (80 < length line.now) × (classes.now ≡ class_table) }
+pub(crate) fn fits_columns(line: &[u8], kind: Kind) -> bool
+    requires { 80 < length line.now }
     ensures { result ≡ true → Columns (get_or class_table (kind_index kind) []) line.now }
 {
-    let row = &classes[kind.index()];
+    let row = &CLASSES[kind.index()];
     if is_text_kind(kind) {
         return fits_texts(line, row);
     }

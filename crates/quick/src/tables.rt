@@ -93,8 +93,8 @@ const LOCAL: [[u8; 80]; 5] = [
     *b"     ~~~~~   ~~~   ~~~         ~         ~         ~         ~~~~~~~~~~~~~~~~~~~",
 ];
 
-// The kinds in their order. The call lends them once for a whole file: where a constant array is indexed, it is written to the stack.
-pub const CLASSES: [[[u8; 80]; 5]; 14] = [
+// The kinds in their order. A static, which is read where it lies: a constant array would be written to the stack where it is indexed.
+pub(crate) static CLASSES: [[[u8; 80]; 5]; 14] = [
     TEXT, // a job code
     TEXT, // *10*
     TEXT, // *11*

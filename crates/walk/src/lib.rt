@@ -20,7 +20,6 @@ use crate::records::walk_records;
 use crate::referring::refer_records;
 use crate::words::clear;
 use kinds::Fault;
-use quick::tables::CLASSES;
 
 // What form and references say of one file.
 #[derive(Clone, Copy)]
@@ -34,7 +33,7 @@ fn walk_file(file: &[u8], words: &mut [u32]) -> Result<[u32; 14], Fault>
     requires { length words.old ≤ 12_000 }
     ensures { Walked chapter4 file.now result words.old words.new }
 {
-    walk_records(file, words, &ORDER, LAST_JOB, &CLASSES)
+    walk_records(file, words, &ORDER, LAST_JOB)
 }
 
 // 14 is all that is said of a form that is not good; 11 and 12 are judged only where it is.

@@ -5,7 +5,6 @@ ghost use Rattle.rules.specs.Kinds.{kind_of};
 ghost use Rattle.rules.specs.Order.{goto};
 ghost use Rattle.rules.specs.Chapter4.{ordered};
 ghost use Rattle.kinds.specs.Values.{judged_of, kind_index};
-ghost use Rattle.quick.specs.Rows.{class_table};
 ghost use Rattle.walk.specs.Keeping.{tabular};
 ghost use Rattle.walk.specs.Walking.{unknown_at, judge_at, step_of, Walked};
 
@@ -64,30 +63,22 @@ fn judge_quickly(
     r: usize,
     line: &[u8],
     kind: Kind,
-    classes: &[[[u8; 80]; 5]; 14],
 ) -> Result<(), Flaw>
-    requires { (kind_index kind ≡ kind_of (code_at line.now)) × (tabular rows.now ≡ true) × (next ≡ goto rows.now s.place (kind_index kind)) × (classes.now ≡ class_table) }
+    requires { (kind_index kind ≡ kind_of (code_at line.now)) × (tabular rows.now ≡ true) × (next ≡ goto rows.now s.place (kind_index kind)) }
     ensures { result ≡ judged_of (judge_at rows.now s r line.now) }
 {
-    if (next != 0) & (r <= 99_999) & fits(line, Some(kind), expect(s, kind), classes) {
+    if (next != 0) & (r <= 99_999) & fits(line, Some(kind), expect(s, kind)) {
         return Ok(());
     }
     judge_placed(rows, s, r, line, kind)
 }
 
-fn step(
-    rows: &[[u8; 14]; 17],
-    s: Kept,
-    r: usize,
-    line: &[u8],
-    kind: Kind,
-    classes: &[[[u8; 80]; 5]; 14],
-) -> Result<Kept, Flaw>
-    requires { (kind_index kind ≡ kind_of (code_at line.now)) × (tabular rows.now ≡ true) × (classes.now ≡ class_table) }
+fn step(rows: &[[u8; 14]; 17], s: Kept, r: usize, line: &[u8], kind: Kind) -> Result<Kept, Flaw>
+    requires { (kind_index kind ≡ kind_of (code_at line.now)) × (tabular rows.now ≡ true) }
     ensures { result ≡ step_of rows.now s r line.now }
 {
     let next = look_up(rows, s.place, kind);
-    judge_quickly(rows, s, next, r, line, kind, classes)?;
+    judge_quickly(rows, s, next, r, line, kind)?;
     Ok(moved(
         s,
         next,
@@ -105,9 +96,8 @@ pub(crate) fn walk_records(
     words: &mut [u32],
     rows: &[[u8; 14]; 17],
     last: usize,
-    classes: &[[[u8; 80]; 5]; 14],
 ) -> Result<[u32; 14], Fault>
-    requires { (length words.old ≤ 12_000) × (tabular rows.now ≡ true) × (classes.now ≡ class_table) }
+    requires { (length words.old ≤ 12_000) × (tabular rows.now ≡ true) }
     ensures { Walked (ordered rows.now last) file.now result words.old words.new }
 {
     let n = count_begun(file);
@@ -127,7 +117,7 @@ pub(crate) fn walk_records(
         let Some(kind) = kind_at(l) else {
             return Err(judge_unknown(r, l).in_record(r));
         };
-        s = step(rows, s, r, l, kind, classes).map_err(|flaw| flaw.in_record(r))?;
+        s = step(rows, s, r, l, kind).map_err(|flaw| flaw.in_record(r))?;
         counts[kind.index()] += 1;
         mark_record(words, l, kind, r as u32);
     }

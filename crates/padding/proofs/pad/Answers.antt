@@ -1,7 +1,5 @@
-use mathlib.Core.Path.{refl}
 use native.Mathlib.Omega.{arith}
 use Rattle.kinds.proofs.ValueLaws.{handed_on}
-use Rattle.padding.specs.Lines.{mask_bytes}
 use Rattle.padding.proofs.PadLaws.{faulty, good-lines, count, narrow, before, laid}
 use Rattle.padding.proofs.pad.Goals as goal
 
@@ -15,13 +13,12 @@ pub returns-then-out-lines : goal.returns-then-out-lines
 returns-then-out-lines c = let a = c.args in narrow a.input.now a.out.now c.judge.result c.judge.ensures _ c.in_ok-lines.was c.if-out-lines.true c.new.ensures
 
 pub lay_lines-requires : goal.lay_lines-requires
-unfolding mask_bytes
 lay_lines-requires c =
     let a = c.args in
     let v = c.judge.result in
     let halves = c.count_halves-halves.ensures in
     let k = count a.input.now a.out.now v c.judge.ensures _ c.in_ok-lines.was in
-    (refl, good-lines a.input.now a.out.now v c.judge.ensures _ c.in_ok-lines.was, k, before a.input.now a.out.now v c.judge.ensures _ c.in_ok-lines.was _ halves.within, halves.behind, omega arith)
+    (good-lines a.input.now a.out.now v c.judge.ensures _ c.in_ok-lines.was, k, before a.input.now a.out.now v c.judge.ensures _ c.in_ok-lines.was _ halves.within, halves.behind, omega arith)
 
 pub returns : goal.returns
 returns c = let a = c.args in laid a.input.now a.out.now c.judge.result c.judge.ensures _ c.in_ok-lines.was c.if-out-lines.false _ c.lay_lines.ensures

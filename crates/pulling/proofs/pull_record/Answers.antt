@@ -6,7 +6,7 @@ pub overflow_sub-r : goal.overflow_sub-r
 overflow_sub-r c = search (asked_low, rules)
 
 pub pull_line-requires : goal.pull_line-requires
-pull_line-requires c = (search (line_most, rules), search (asked_low, rules), search (asked_high, rules), search rules, search rules)
+pull_line-requires c = (search (line_most, rules), search (asked_low, rules), search (asked_high, rules), search rules)
 
 pub returns-then-is_there : goal.returns-then-is_there
 returns-then-is_there c = search (asked_line, rules)

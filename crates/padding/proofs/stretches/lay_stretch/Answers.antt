@@ -2,7 +2,6 @@ use mathlib.Core.Path.{◌≡◌}
 use Prim.Native.Nat.{◌+◌, ◌-◌, ◌≤◌, ◌<◌}
 use native.Mathlib.Omega.{arith}
 use lib.ListN.{length}
-use borrow.Author.Rules.{rules}
 use Rattle.padding.proofs.PassLaws.{next_within, text_there}
 use Rattle.padding.proofs.StretchLaws.{inside, line_wide, line_fits, lay_next, lay_done}
 use Rattle.padding.proofs.stretches.lay_stretch.Goals as goal
@@ -13,13 +12,13 @@ next : (c : goal.After-slice_known-in-loop-1)
     ≤ length c.args.input.now + 1
 next c =
     let some : 0 < c.args.stretch.lines - c.loop.counter = omega arith in
-    next_within _ _ (inside _ _ _ c.loop.invariant.1.ready some) _ c.middle-part.ensures _ c.feed_at-n.ensures
+    next_within _ _ (inside _ _ _ c.loop.invariant.ready some) _ c.middle-part.ensures _ c.feed_at-n.ensures
 
 pub lay_line-requires : goal.lay_line-requires
 lay_line-requires c =
-    let ready = c.loop.invariant.1.ready in
+    let ready = c.loop.invariant.ready in
     let some : 0 < c.args.stretch.lines - c.loop.counter = omega arith in
-    (text_there _ _ (inside _ _ _ ready some) _ c.middle-part.ensures _ c.feed_at-n.ensures _ c.text_length-k.ensures, line_fits _ _ _ ready some _ c.middle-part.ensures _ c.feed_at-n.ensures _ c.text_length-k.ensures, search rules, line_wide _ _ _ ready some)
+    (text_there _ _ (inside _ _ _ ready some) _ c.middle-part.ensures _ c.feed_at-n.ensures _ c.text_length-k.ensures, line_fits _ _ _ ready some _ c.middle-part.ensures _ c.feed_at-n.ensures _ c.text_length-k.ensures, line_wide _ _ _ ready some)
 
 pub overflow_add-from : goal.overflow_add-from
 overflow_add-from c = let h = next c in omega arith
@@ -31,7 +30,7 @@ pub loop-preserved : goal.loop-preserved
 loop-preserved c =
     let some : 0 < c.args.stretch.lines - c.loop.counter = omega arith in
     let fewer : c.args.stretch.lines - (c.loop.counter + 1) ≡ c.args.stretch.lines - c.loop.counter - 1 = omega arith in
-    (search rules, rw fewer (lay_next _ _ _ _ _ c.loop.invariant.1 some _ c.middle-part.ensures c.feed_at-n.result c.feed_at-n.ensures _ c.text_length-k.ensures _ c.lay_line.ensures))
+    (rw fewer (lay_next _ _ _ _ _ c.loop.invariant some _ c.middle-part.ensures c.feed_at-n.result c.feed_at-n.ensures _ c.text_length-k.ensures _ c.lay_line.ensures))
 
 pub returns : goal.returns
-returns c = lay_done _ _ _ _ _ c.loop.invariant.1 (omega arith)
+returns c = lay_done _ _ _ _ _ c.loop.invariant (omega arith)

@@ -15,7 +15,7 @@ pub returns-in_default : goal.returns-in_default
 returns-in_default c = search (go_unknown, rules)
 
 pub step-requires : goal.step-requires
-step-requires c = (some_kind c.kind_at.result c.in-Some.kind _ c.kind_at.ensures c.in-Some.is, search rules, search rules)
+step-requires c = (some_kind c.kind_at.result c.in-Some.kind _ c.kind_at.ensures c.in-Some.is, search rules)
 
 pub returns-in_err-s : goal.returns-in_err-s
 returns-in_err-s c =
