@@ -17,7 +17,8 @@ use crate::stretches::lay_lines;
 use columns::parts::middle;
 use kinds::Fault;
 
-// Line by line, 2 and then 5. Here and below `as` is kept: usize has no From<u32>. Nothing is written before the last line is judged, since a refusal leaves the output as it was.
+// Line by line, 2 and then 5. Nothing is written before the last line is judged, since a refusal leaves the output as it was.
+// Kept `as`, here and below: usize has no From<u32>.
 fn judge_lines(input: &[u8]) -> Result<u32, Fault>
     ensures { result ≡ padded_of (pad_answer_by (judge_texts 1 (texts input.now)) (length (texts input.now))) }
 {

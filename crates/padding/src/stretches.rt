@@ -3,7 +3,6 @@
 ghost use Rattle.std.specs.Prelude.{◌≡◌, ◌++◌, ◌*◌, ◌≤◌, length, drop};
 ghost use Rattle.rules.specs.Files.{accept};
 ghost use Rattle.rules.specs.Padding.{texts, padded, judge_texts};
-ghost use Rattle.padding.specs.Lines.{mask_bytes};
 ghost use Rattle.padding.specs.Walks.{Apart, Ready, Turned, laid};
 
 use crate::laying::lay_line;

@@ -78,7 +78,7 @@ fn pull_entries(file: &[u8], records: &[u32], out: &mut [u8], faults: &mut [u32]
     }
 }
 
-// By the table of the quick test.
+// All entries of the list.
 fn pull_list(file: &[u8], records: &[u32], out: &mut [u8], faults: &mut [u32])
     requires { (81 * length records.now ≤ length out.old) × (length records.now ≤ length faults.old) }
     ensures { Entries file.now records.now out.old faults.old out.new faults.new }

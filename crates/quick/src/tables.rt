@@ -94,7 +94,7 @@ const LOCAL: [[u8; 80]; 5] = [
 ];
 
 // The kinds in their order. A static, which is read where it lies: a constant array would be written to the stack where it is indexed.
-pub(crate) static CLASSES: [[[u8; 80]; 5]; 14] = [
+pub static CLASSES: [[[u8; 80]; 5]; 14] = [
     TEXT, // a job code
     TEXT, // *10*
     TEXT, // *11*

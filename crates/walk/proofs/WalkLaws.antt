@@ -24,7 +24,6 @@ use Rattle.rules.proofs.ReferenceLaws.{stations_in, instruments_in, antennas_in,
 use Rattle.kinds.specs.declared.Fault.{Fault}
 use Rattle.kinds.specs.declared.Kind.{Kind}
 use Rattle.kinds.specs.Values.{judged_of, kind_index, kind_in}
-use Rattle.kinds.proofs.KindLaws.{index_small}
 use Rattle.walk.specs.declared.kept.Kept.{Kept}
 use Rattle.std.specs.Prelude.{Result, Ok, Err, Option, None}
 use Rattle.kinds.specs.declared.Flaw.{Flaw}
@@ -106,6 +105,9 @@ module _ (rows : List (List ℕ)) (last : ℕ) (s : Kept) (r : ℕ) (l : List �
 
     pub step_few : r ≤ 99_999
     step_few = to≤ fine.0
+
+    pub step_known : kind_of (code_at l) < 14
+    step_known = let h : kind_of (code_at l) ≤ 13 = of_a_kind rows last s l fine.1 in omega arith
 
     step_past : past_of u ≡ after rows (past_of s) (meaning (ordered rows last) l)
     unfolding step_of
@@ -208,9 +210,9 @@ module _ (rows : List (List ℕ)) (last : ℕ) (f : List ℕ) (n : ℕ) (t₀ t 
           filling = λ y. absurd (refused-not m (i + 1) c _ z y);
         }
 
-    module _ (u : Kept) (q : a ≡ Ok u) (kind : Kind) (ek : kind_index kind ≡ kind_of (code_at l)) where
-      abbrev k : ℕ
-      k = kind_index kind
+    module _ (u : Kept) (q : a ≡ Ok u) (k : ℕ) (ek : k ≡ kind_of (code_at l)) where
+      pub go_known : k < 14
+      go_known = rw ek (step_known rows last s (i + 1) l a ea u q)
 
       pub go_few : i + 1 ≤ 99_999
       go_few = step_few rows last s (i + 1) l a ea u q
@@ -222,9 +224,9 @@ module _ (rows : List (List ℕ)) (last : ℕ) (f : List ℕ) (n : ℕ) (t₀ t 
           is_ok_lem ok y = refl
           is_ok_lem (fault m c) y = absurd (false≢true (unfold is_ok in y))
 
-      going : (v : List ℕ) → v ≡ mark (i + 1) (slot_in k (lead_in k l)) t → Going E f n t₀ v u (set cs k (get_or cs k 0 + 1)) (i + 1)
-      going v ev =
-          let small : k < length cs = rw g.kinds (index_small kind) in
+      pub go_next : (v : List ℕ) → v ≡ mark (i + 1) (slot_in k (lead_in k l)) t → Going E f n t₀ v u (set cs k (get_or cs k 0 + 1)) (i + 1)
+      go_next v ev =
+          let small : k < length cs = rw g.kinds go_known in
           record {
             count = g.count;
             few = go_few;
@@ -247,8 +249,10 @@ module _ (rows : List (List ℕ)) (last : ℕ) (f : List ℕ) (n : ℕ) (t₀ t 
           fills : filled (i + 1 + 1) (map (meaning E) (lines_from f (n - (i + 1)) (i + 1))) (mark (i + 1) (slot_of (meaning E (line_at f i))) t) ≡ filled 1 (meanings E f) t₀
           fills = unfold filled in (rw (lines_more f n i h) at g.filling)
 
-      pub go_next : (v : List ℕ) → v ≡ mark (i + 1) (slot_in k (lead_in k l)) t → (j : ℕ) → j ≡ k → Going E f n t₀ v u (set cs j (get_or cs j 0 + 1)) (i + 1)
-      go_next v ev j ej = rw ej (going v ev)
+    -- the same where the kind is a value of its type, and its count stands at the number that it answers
+    module _ (u : Kept) (q : a ≡ Ok u) (kind : Kind) (ek : kind_index kind ≡ kind_of (code_at l)) where
+      pub go_counted : (v : List ℕ) → v ≡ mark (i + 1) (slot_in (kind_index kind) (lead_in (kind_index kind) l)) t → (j : ℕ) → j ≡ kind_index kind → Going E f n t₀ v u (set cs j (get_or cs j 0 + 1)) (i + 1)
+      go_counted v ev j ej = rw ej (go_next u q (kind_index kind) ek v ev)
 
   -- a record of no kind
   pub go_unknown : i < n → (l : List ℕ) → l ≡ line_at f i → (o : Option Kind) → kind_in o ≡ kind_of (code_at l) → o ≡ None → (w : Flaw) → Err w ≡ judged_of (unknown_at (i + 1) l)

@@ -4,7 +4,7 @@ use Rattle.std.specs.Prelude.{Err}
 use borrow.Author.Rules.{rules}
 use native.Mathlib.Omega.{arith}
 use Rattle.kinds.proofs.ValueLaws.{handed_on, mapped_ok, mapped_err}
-use Rattle.walk.proofs.WalkLaws.{no_longer, go_from, go_fault, go_next, go_short, go_good, go_unknown}
+use Rattle.walk.proofs.WalkLaws.{no_longer, go_from, go_fault, go_counted, go_short, go_good, go_unknown}
 use Rattle.kinds.proofs.KindLaws.{some_kind}
 use Rattle.walk.proofs.records.walk_records.Goals as goal
 
@@ -33,7 +33,7 @@ mark_record-requires c = search (no_longer, rules)
 pub loop-i-preserved : goal.loop-i-preserved
 loop-i-preserved c =
     let k = some_kind c.kind_at.result c.in-Some.kind _ c.kind_at.ensures c.in-Some.is in
-    (search rules, search (go_next, k, mapped_ok c.step.result _ c.map_err.ensures.cases c.in_ok-s.was, rules))
+    (search rules, search (go_counted, k, mapped_ok c.step.result _ c.map_err.ensures.cases c.in_ok-s.was, rules))
 
 pub returns-then-s-last : goal.returns-then-s-last
 returns-then-s-last c = search (go_short, rules)

@@ -1,4 +1,4 @@
--- Option ℕ number, code, fields, line feed.
+-- Sequence number, code, fields, line feed.
 use Rattle.writing.proofs.LineLaws.{given-formed, given-laid, sequence_count_lem}
 use Rattle.writing.proofs.lines.lay_line.Goals as goal
 use Rattle.columns.specs.Types.{count_value}
